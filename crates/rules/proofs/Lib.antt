@@ -1,0 +1,3 @@
+pub mod ChoiceLaws
+pub mod BelowLaws
+pub mod Formed

@@ -1,0 +1,190 @@
+-- The cases that the paper marks to be proved of the rules, one table of theorems, each by computation from the table's words.
+use mathlib.Core.Bool.{true, false}
+use mathlib.Core.List.{List, [], _∷_, _++_}
+use mathlib.Core.Path.{_≡_, refl}
+use Prim.Native.Nat.{ℕ, zero, suc, _+_, _-_, _*_, _/_, _%_, _^_}
+use lib.ListN.{getD, replicate, set, take}
+use Rattle.rules.specs.declared.Event.{Event}
+use Rattle.rules.specs.declared.Event.the-variants.{Moved, Finished, Arrived, Completed, Waiting, Ended}
+use Rattle.rules.specs.declared.Stepped.{Stepped}
+use Rattle.rules.specs.declared.Stepped.the-variants.{Taken}
+use Rattle.rules.specs.declared.TeamStatus.{TeamStatus}
+use Rattle.rules.specs.declared.TeamStatus.the-variants.{Going, Done, Deadlocked}
+use Rattle.rules.specs.declared.Verdict.{Verdict}
+use Rattle.rules.specs.declared.Verdict.the-variants.{Accepted}
+use Rattle.rules.specs.Acceptance
+use Rattle.rules.specs.Acceptance.{checked}
+use Rattle.rules.specs.Answers.{refused}
+use Rattle.rules.specs.Arrivals
+use Rattle.rules.specs.Below
+use Rattle.rules.specs.Choice
+use Rattle.rules.specs.Collective
+use Rattle.rules.specs.Evaluation
+use Rattle.rules.specs.Evaluation.{Environment, value}
+use Rattle.rules.specs.Judgement
+use Rattle.rules.specs.Process
+use Rattle.rules.specs.Process.{processAt}
+use Rattle.rules.specs.Run
+use Rattle.rules.specs.Run.{Team, answers, afterTurns, startTeam}
+use Rattle.rules.specs.Start
+use Rattle.rules.specs.Step
+use Rattle.rules.specs.Table
+use Rattle.rules.specs.WellFormed
+
+-- the bytes of a table's words
+bytes : List ℕ → List ℕ
+bytes [] = []
+bytes (w ∷ words) = w / 2 ^ 24 ∷ (w / 2 ^ 16 % 256) ∷ (w / 2 ^ 8 % 256) ∷ (w % 256) ∷ bytes words
+
+-- the checker's answer on a table's words, with scratch enough
+verdict : List ℕ → Verdict
+verdict words = checked (bytes words) (replicate 256 0)
+
+-- the team after a start of `count` processes on zeroed words, and the answers to a list of turns
+startOn : List ℕ → ℕ → List ℕ → Team
+startOn words count start =
+    startTeam (bytes words) count start (replicate (329 * count) 0) (replicate (4 * count) 0)
+
+run : List ℕ → ℕ → List ℕ → List ℕ → List Stepped
+run words count start turns = answers (bytes words) (startOn words count start) turns
+
+answer : Event → TeamStatus → Stepped
+answer event team = Taken (record { event = event; team = team })
+
+-- opens every definition of the rules, so that a case computes
+opened : ℕ
+unfolding bytes verdict startOn run answer Choice.firstFailing Choice.allBelow Below.below Below.atNode Table.wordAt Table.edition Table.variables Table.procedures Table.nodes Table.flagged Table.procedureWord Table.body Table.effectFlag Table.mainBody Table.unpacked Table.nodeAt Table.expressionOf Table.statementOf Table.expressionAt Table.statementAt WellFormed.headerFits WellFormed.procedureFits WellFormed.isExpression WellFormed.isStatement WellFormed.kindKnown WellFormed.namedFields WellFormed.unnamedZero WellFormed.expressionPart WellFormed.statementPart WellFormed.expressionFits WellFormed.collectiveFits WellFormed.statementFits WellFormed.nodeFits WellFormed.expressionParts WellFormed.collectiveParts WellFormed.statementParts WellFormed.partsAt WellFormed.joined WellFormed.uses WellFormed.occurrences WellFormed.usedOnce WellFormed.someOf WellFormed.inTree WellFormed.calledBelow WellFormed.wellFormed Judgement.singleOf Judgement.single Judgement.effectOf Judgement.effect Acceptance.ruleOf Acceptance.bodyFlagged Acceptance.judged Acceptance.checked Acceptance.checkedScratch Evaluation.applied Evaluation.valueOf Evaluation.value Process.processAt Process.withProcess Process.eachProcess Process.depth Process.top Process.popped Process.replaced Process.pushed Process.advanced Process.needsPlace Arrivals.statusAt Arrivals.arrivalNode Arrivals.arrivalValue Arrivals.arrivalSource Arrivals.withArrival Arrivals.eachArrival Arrivals.teamStatus Arrivals.allAtOneNode Collective.arrivalOf Collective.gatheredFrom Collective.received Collective.completedState Collective.releasedRoll Start.startSize Start.startVerdict Start.startWords Start.startProcess Start.startState Start.startRoll Start.startedBy Start.started Start.latchesOf Step.processesIn Step.stackFits Step.fieldsZero Step.lackedZero Step.waitFits Step.recordFits Step.processFits Step.placeLacked Step.stepVerdict Step.moved Step.completed Step.arrivedAt Step.stepRunning Step.stepTaken Step.steppedBy Step.stepped Run.afterTurns Run.answers Run.collectives
+opened = 0
+
+-- T1: if own number then barrier else nothing
+t1 : List ℕ
+t1 = 0x10420400 ∷ 0x00000000 ∷ 0x03800000 ∷ 0x10000000 ∷ 0xB8000000 ∷ 0x80000000 ∷ 0x98000202 ∷ []
+
+-- T2: T1 with the number of processes as its condition
+t2 : List ℕ
+t2 = set t1 3 0x18000000
+
+-- the start words of a process with one variable, all 0
+zeros : ℕ → List ℕ
+zeros count = replicate (13 * count) 0
+
+-- the checker
+
+t1-refused : verdict t1 ≡ refused 15 3
+unfolding opened t1
+t1-refused = refl
+
+t2-accepted : verdict t2 ≡ Accepted
+unfolding opened t1 t2
+t2-accepted = refl
+
+t1-unflagged : verdict (set t1 2 0x03000000) ≡ refused 15 3
+unfolding opened t1
+t1-unflagged = refl
+
+t1-cut : verdict (take 6 t1) ≡ refused 4 0
+unfolding opened t1
+t1-cut = refl
+
+t1-shared-node : verdict (set t1 6 0x98000201) ≡ refused 11 1
+unfolding opened t1
+t1-shared-node = refl
+
+t1-no-variables : verdict (set t1 0 0x10020400) ≡ refused 3 0
+unfolding opened t1
+t1-no-variables = refl
+
+-- a call of a flagged procedure whose body is nothing, under a local condition: the flag decides
+flagged-call : List ℕ
+flagged-call =
+    0x10440500 ∷ 0 ∷ 0x00800000 ∷ 0x04800000
+    ∷ 0x80000000 ∷ 0x10000000 ∷ 0xA8000000 ∷ 0x80000000 ∷ 0x98040403 ∷ []
+
+flagged-call-refused : verdict flagged-call ≡ refused 15 4
+unfolding opened flagged-call
+flagged-call-refused = refl
+
+-- a single variable that takes a constant, under a local condition
+single-under-local : List ℕ
+single-under-local =
+    0x10420500 ∷ 0x80000000 ∷ 0x04800000
+    ∷ 0x10000000 ∷ 0x00000001 ∷ 0x88000200 ∷ 0x80000000 ∷ 0x98000403 ∷ []
+
+single-under-local-refused : verdict single-under-local ≡ refused 15 4
+unfolding opened single-under-local
+single-under-local-refused = refl
+
+-- an exchange and 127 barriers in sequence: 256 nodes
+barriers : ℕ → List ℕ
+barriers zero = []
+barriers (suc k) = barriers k ++ (0xB8000000 ∷ (0x90000000 + (2 * k + 1) * 2 ^ 18 + (2 * k + 2) * 2 ^ 9) ∷ [])
+
+full-table : List ℕ
+full-table = 0x10430000 ∷ 0 ∷ 0xFF800000 ∷ 0x18000000 ∷ 0xC8000000 ∷ barriers 127
+
+full-table-accepted : verdict full-table ≡ Accepted
+unfolding opened barriers full-table
+full-table-accepted = refl
+
+-- runs
+
+t1-on-two : run t1 2 (zeros 2) (0 ∷ 0 ∷ 1 ∷ 1 ∷ [])
+    ≡ answer Moved Going ∷ answer Finished Going ∷ answer Moved Going ∷ answer (Arrived 1) Deadlocked ∷ []
+unfolding opened zeros t1
+t1-on-two = refl
+
+t2-on-one : run t2 1 (zeros 1) (0 ∷ 0 ∷ []) ≡ answer Moved Going ∷ answer (Completed 1) Done ∷ []
+unfolding opened zeros t1 t2
+t2-on-one = refl
+
+t2-on-two : run t2 2 (zeros 2) (0 ∷ 0 ∷ 1 ∷ 1 ∷ [])
+    ≡ answer Moved Going ∷ answer (Arrived 1) Going ∷ answer Moved Going ∷ answer (Completed 1) Done ∷ []
+unfolding opened zeros t1 t2
+t2-on-two = refl
+
+-- if own number then barrier else another barrier: the barriers are matched by node and not by kind
+two-barriers : List ℕ
+two-barriers = set t1 5 0xB8000000
+
+two-barriers-deadlocked : run two-barriers 2 (zeros 2) (0 ∷ 0 ∷ 1 ∷ 1 ∷ [])
+    ≡ answer Moved Going ∷ answer (Arrived 2) Going ∷ answer Moved Going ∷ answer (Arrived 1) Deadlocked ∷ []
+unfolding opened zeros t1 two-barriers
+two-barriers-deadlocked = refl
+
+-- a broadcast of the own number from the process of the own number: each process uses its own source, and so gets its own number
+own-source : List ℕ
+own-source = 0x10420300 ∷ 0 ∷ 0x02800000 ∷ 0x10000000 ∷ 0x10000000 ∷ 0xC0000001 ∷ []
+
+-- variable 0 of a process after a run on two processes
+variable-after : List ℕ → List ℕ → ℕ → ℕ
+variable-after words turns p =
+    getD (processAt (afterTurns (bytes words) (startOn words 2 (zeros 2)) turns .state) p) 0 0
+
+own-source-taken : variable-after own-source (0 ∷ 1 ∷ []) 1 ≡ 1
+unfolding opened zeros own-source variable-after
+own-source-taken = refl
+
+-- values: an environment whose doors 11 and 12 both hold 7 if read
+
+-- node 0 is the constant k, node 1 the door of that number
+door-table : ℕ → List ℕ
+door-table k = 0x10420400 ∷ 0 ∷ 0x03800000 ∷ k ∷ 0x20000000 ∷ []
+
+sevens : Environment
+sevens = record { variable = λ a. 7; gathered = λ i. 7; door = λ i. 7; own = 0; count = 1 }
+
+door-11 : value (bytes (door-table 11)) sevens 1 ≡ 7
+unfolding opened door-table sevens
+door-11 = refl
+
+door-12 : value (bytes (door-table 12)) sevens 1 ≡ 0
+unfolding opened door-table sevens
+door-12 = refl
+
+-- node 2 is 9 divided by 0
+division-table : List ℕ
+division-table = 0x10420400 ∷ 0 ∷ 0x03800000 ∷ 9 ∷ 0 ∷ 0x48000200 ∷ []
+
+divisor-0 : value (bytes division-table) sevens 2 ≡ 0
+unfolding opened division-table sevens
+divisor-0 = refl

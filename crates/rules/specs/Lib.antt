@@ -1,0 +1,17 @@
+-- The definitions that a reader must believe: a file a chapter of the rules paper, in its order. "The paper" in the comments
+-- is the rules paper; a quotation is the sentence that the definition stands for.
+pub mod Choice
+pub mod Below
+pub mod Answers
+pub mod Table
+pub mod WellFormed
+pub mod Judgement
+pub mod Acceptance
+pub mod Evaluation
+pub mod Process
+pub mod Arrivals
+pub mod Collective
+pub mod Start
+pub mod Step
+pub mod Run
+pub mod Cases

@@ -1,0 +1,108 @@
+-- "Steps of a bank": a process's words by named offsets, its stack, and one step of a statement that is no collective.
+use mathlib.Core.Bool.{Bool, true, false, cond, not}
+use mathlib.Core.List.{List, [], _∷_, _++_}
+use Prim.Native.Nat.{ℕ, zero, suc, _+_, _-_, _*_}
+use lib.Dec.{ltb, eqb}
+use lib.ListN.{getD, set, take, drop}
+use Rattle.rules.specs.Evaluation.{Environment, value, doors}
+use Rattle.rules.specs.Table.{body}
+use Rattle.rules.specs.Table.{Statement, nothing, assign, sequence, branch, loop, call, latch, collective}
+
+-- "In lent words that is 329: 32, 16, 12, 12, depth, 256 stack places, first entry lowest." Variables stand at 0.
+abbrev pub variablePlaces : ℕ
+variablePlaces = 32
+
+abbrev pub gatheredPlaces : ℕ
+gatheredPlaces = 16
+
+abbrev pub gatheredAt : ℕ
+gatheredAt = 32
+
+abbrev pub doorsAt : ℕ
+doorsAt = 48
+
+abbrev pub latchesAt : ℕ
+latchesAt = 60
+
+abbrev pub depthAt : ℕ
+depthAt = 72
+
+abbrev pub stackAt : ℕ
+stackAt = 73
+
+abbrev pub stackPlaces : ℕ
+stackPlaces = 256
+
+abbrev pub processWords : ℕ
+processWords = 329
+
+-- the words of process p in the lent state, and the state with other words there
+unfoldable pub processAt : List ℕ → ℕ → List ℕ
+processAt state p = take processWords (drop (processWords * p) state)
+
+unfoldable pub withProcess : List ℕ → ℕ → List ℕ → List ℕ
+withProcess state p words =
+    take (processWords * p) state ++ (words ++ drop processWords (drop (processWords * p) state))
+
+-- the state with `change p` made to the words of each process p below a count, lowest first
+unfoldable pub eachProcess : (ℕ → List ℕ → List ℕ) → ℕ → List ℕ → List ℕ
+eachProcess change zero state = state
+eachProcess change (suc n) state =
+    let earlier = eachProcess change n state in
+    withProcess earlier n (change n (processAt earlier n))
+
+-- a process's words as an environment
+abbrev pub environment : List ℕ → ℕ → ℕ → Environment
+environment words own count =
+    record {
+      variable = λ a. getD words a 0;
+      gathered = λ i. getD words (gatheredAt + i) 0;
+      door = λ i. getD words (doorsAt + i) 0;
+      own = own;
+      count = count;
+    }
+
+unfoldable pub depth : List ℕ → ℕ
+depth words = getD words depthAt 0
+
+-- the top entry, at stackAt + depth - 1
+unfoldable pub top : List ℕ → ℕ
+top words = getD words (depthAt + depth words) 0
+
+-- the top entry goes; "Vacated stack places are 0."
+unfoldable pub popped : List ℕ → List ℕ
+popped words = set (set words (depthAt + depth words) 0) depthAt (depth words - 1)
+
+-- the top entry becomes another
+unfoldable pub replaced : List ℕ → ℕ → List ℕ
+replaced words n = set words (depthAt + depth words) n
+
+-- an entry above the top
+unfoldable pub pushed : List ℕ → ℕ → List ℕ
+pushed words n = set (set words (stackAt + depth words) n) depthAt (depth words + 1)
+
+-- "Kinds 16, 17, 22 do their work and go. 18 becomes A above B. 19 becomes its branch. 20 with a zero condition goes, otherwise
+-- its body lies above it. 21 becomes the procedure's body." A latch number "from 12 on nothing is changed". A collective is
+-- left to Collective.antt.
+unfoldable pub advanced : List ℕ → Environment → List ℕ → Statement → List ℕ
+advanced table env words nothing = popped words
+advanced table env words (assign a b) = popped (set words a (value table env b))
+advanced table env words (sequence a b) = pushed (replaced words b) a
+advanced table env words (branch a b c) = replaced words (cond (eqb (value table env a) 0) c b)
+advanced table env words (loop a b) = cond (eqb (value table env a) 0) (popped words) (pushed words b)
+advanced table env words (call p) = replaced words (body table p)
+advanced table env words (latch a b) =
+    popped
+    (cond (ltb (value table env a) doors) (set words (latchesAt + value table env a) (value table env b)) words)
+advanced table env words (collective k) = words
+
+-- 24's "if one is needed": kind 18, and kind 20 with a condition that is not zero
+unfoldable pub needsPlace : List ℕ → Environment → Statement → Bool
+needsPlace table env nothing = false
+needsPlace table env (assign a b) = false
+needsPlace table env (sequence a b) = true
+needsPlace table env (branch a b c) = false
+needsPlace table env (loop a b) = not (eqb (value table env a) 0)
+needsPlace table env (call p) = false
+needsPlace table env (latch a b) = false
+needsPlace table env (collective k) = false

@@ -1,0 +1,87 @@
+-- A start: questions 2 to 12 and 18 to 21, the words that it lays out, and the view of a process's latches.
+use mathlib.Core.Bool.{cond, _&&_}
+use mathlib.Core.List.{List, [], _∷_, _++_}
+use Prim.Native.Nat.{ℕ, _+_, _-_, _*_, _/_, _%_}
+use lib.Dec.{leb, ltb, eqb}
+use lib.ListN.{length, take, drop, replicate}
+use Rattle.rules.specs.declared.Verdict.{Verdict}
+use Rattle.rules.specs.declared.Verdict.the-variants.{Accepted, Refused}
+use Rattle.rules.specs.Answers.{_then_, ask}
+use Rattle.rules.specs.Arrivals.{arrivalSize, runningRecord, eachArrival}
+use Rattle.rules.specs.Evaluation.{doors}
+use Rattle.rules.specs.Process.{variablePlaces, gatheredPlaces, latchesAt, stackPlaces, processWords, eachProcess}
+use Rattle.rules.specs.Table.{variables, mainBody}
+use Rattle.rules.specs.WellFormed.{wellFormed}
+
+-- 18: "1 to 16 banks?"
+abbrev pub question18 : ℕ → Verdict
+question18 count = ask 18 (leb 1 count && leb count 16)
+
+-- the start words of one process: "V variables then 12 doors a bank"
+unfoldable pub startSize : List ℕ → ℕ
+startSize table = variables table + doors
+
+-- 19: "Start words, V variables then 12 doors a bank, exactly?"
+abbrev pub question19 : List ℕ → ℕ → List ℕ → Verdict
+question19 table count words = ask 19 (eqb (length words) (startSize table * count))
+
+-- 20: "State exactly 329 words a bank?"
+abbrev pub question20 : ℕ → List ℕ → Verdict
+question20 count state = ask 20 (eqb (length state) (processWords * count))
+
+-- 21: "Roll one record a bank, 1 to 16?"
+abbrev pub question21 : ℕ → List ℕ → Verdict
+question21 count roll = ask 21 (eqb (length roll) (arrivalSize * count) && leb 1 count && leb count 16)
+
+-- the questions of a start, in order
+unfoldable pub startVerdict : List ℕ → ℕ → List ℕ → List ℕ → List ℕ → Verdict
+startVerdict table count words state roll =
+    wellFormed table
+    then question18 count
+    then question19 table count words
+    then question20 count state
+    then question21 count roll
+
+-- the start words of process p
+unfoldable pub startWords : List ℕ → List ℕ → ℕ → List ℕ
+startWords table words p = take (startSize table) (drop (startSize table * p) words)
+
+-- "At start the stack holds the main body; variables and doors are as given; all else is 0."
+unfoldable pub startProcess : List ℕ → List ℕ → List ℕ
+startProcess table words =
+    take (variables table) words
+    ++ (replicate (variablePlaces - variables table) 0
+    ++ (replicate gatheredPlaces 0
+    ++ (drop (variables table) words
+    ++ (replicate doors 0
+    ++ (1 ∷ mainBody table ∷ replicate (stackPlaces - 1) 0)))))
+
+unfoldable pub startState : List ℕ → ℕ → List ℕ → List ℕ → List ℕ
+startState table count words state = eachProcess (λ p earlier. startProcess table (startWords table words p)) count state
+
+-- "Every record of the roll is then running."
+unfoldable pub startRoll : ℕ → List ℕ → List ℕ
+startRoll count roll = eachArrival (λ p. runningRecord) count roll
+
+-- a start's answer, and state and roll after it: "A refusal leaves state, roll and any lent output unchanged."
+pub record Started : Type 0 where
+  pub answer : Verdict
+  pub state : List ℕ
+  pub roll : List ℕ
+
+unfoldable pub startedBy : Verdict → List ℕ → ℕ → List ℕ → List ℕ → List ℕ → Started
+startedBy Accepted table count words state roll =
+    record { answer = Accepted; state = startState table count words state; roll = startRoll count roll }
+startedBy (Refused r) table count words state roll = record { answer = Refused r; state = state; roll = roll }
+
+unfoldable pub started : List ℕ → ℕ → List ℕ → List ℕ → List ℕ → Started
+started table count words state roll =
+    startedBy (startVerdict table count words state roll) table count words state roll
+
+-- "A host sees a bank's latches as the part of the lent state that holds them. For a bank the state lacks, or a state whose
+-- length is not a multiple of 329, that part is empty."
+unfoldable pub latchesOf : List ℕ → ℕ → List ℕ
+latchesOf state p =
+    cond (eqb (length state % processWords) 0 && ltb p (length state / processWords))
+    (take doors (drop (processWords * p + latchesAt) state))
+    []

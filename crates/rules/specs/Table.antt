@@ -1,0 +1,137 @@
+-- "Words of a table": words out of bytes, header, procedures, nodes, and the two decoded views of a node.
+use mathlib.Core.Bool.{Bool}
+use mathlib.Core.List.{List, [], _∷_}
+use Prim.Native.Nat.{ℕ, _+_, _-_, _*_, _/_, _%_, _^_}
+use lib.Dec.{eqb}
+use lib.ListN.{getD}
+use Rattle.rules.specs.declared.Node.{Node}
+
+-- "A table is 32-bit words, high byte first." A word past the end reads as 0.
+unfoldable pub wordAt : List ℕ → ℕ → ℕ
+wordAt table i =
+    getD table (4 * i) 0 * 2 ^ 24 + getD table (4 * i + 1) 0 * 2 ^ 16 + getD table (4 * i + 2) 0 * 2 ^ 8
+    + getD table (4 * i + 3) 0
+
+-- "Word 0: edition, 4 bits .. variables V, 6 bits .. procedures P, 5 bits .. nodes N, 9 bits .. 8 zero bits."
+unfoldable pub edition : List ℕ → ℕ
+edition table = wordAt table 0 / 2 ^ 28
+
+unfoldable pub variables : List ℕ → ℕ
+variables table = wordAt table 0 / 2 ^ 22 % 64
+
+unfoldable pub procedures : List ℕ → ℕ
+procedures table = wordAt table 0 / 2 ^ 17 % 32
+
+unfoldable pub nodes : List ℕ → ℕ
+nodes table = wordAt table 0 / 2 ^ 8 % 512
+
+-- "Word 1: single flags. The highest bit belongs to variable 0."
+unfoldable pub flagged : List ℕ → ℕ → Bool
+flagged table a = eqb (wordAt table 1 / 2 ^ (31 - a) % 2) 1
+
+-- "P procedure words: body node, 8 bits; effect flag, 1 bit; 23 zero bits. The last procedure is the main one."
+unfoldable pub procedureWord : List ℕ → ℕ → ℕ
+procedureWord table p = wordAt table (2 + p)
+
+unfoldable pub body : List ℕ → ℕ → ℕ
+body table p = procedureWord table p / 2 ^ 24
+
+unfoldable pub effectFlag : List ℕ → ℕ → Bool
+effectFlag table p = eqb (procedureWord table p / 2 ^ 23 % 2) 1
+
+unfoldable pub mainBody : List ℕ → ℕ
+mainBody table = body table (procedures table - 1)
+
+-- "N node words: kind, 5 bits; fields A, B, C, 9 bits each."
+unfoldable pub unpacked : ℕ → Node
+unpacked word = record { kind = word / 2 ^ 27; a = word / 2 ^ 18 % 512; b = word / 2 ^ 9 % 512; c = word % 512 }
+
+unfoldable pub nodeAt : List ℕ → ℕ → Node
+nodeAt table n = unpacked (wordAt table (2 + procedures table + n))
+
+-- kinds 6 to 12
+pub data Operator : Type 0 where
+  sum difference product quotient less equal both : Operator
+
+-- "Expressions", in the order of their kinds 0 to 12; parts are node numbers
+pub data Expression : Type 0 where
+  constant : ℕ → Expression
+  variable : ℕ → Expression
+  ownNumber : Expression
+  processCount : Expression
+  door : ℕ → Expression
+  slot : ℕ → Expression
+  operation : Operator → ℕ → ℕ → Expression
+
+-- kinds 23 to 25, the collectives (the paper's meetings)
+pub data Collective : Type 0 where
+  barrier : Collective
+  broadcast : ℕ → ℕ → ℕ → Collective
+  exchange : ℕ → Collective
+
+-- "Statements", in the order of their kinds 16 to 22, and the collectives; parts are node numbers
+pub data Statement : Type 0 where
+  nothing : Statement
+  assign : ℕ → ℕ → Statement
+  sequence : ℕ → ℕ → Statement
+  branch : ℕ → ℕ → ℕ → Statement
+  loop : ℕ → ℕ → Statement
+  call : ℕ → Statement
+  latch : ℕ → ℕ → Statement
+  collective : Collective → Statement
+
+-- the expression that a node is; one that is none reads as the constant 0
+unfoldable pub expressionOf : Node → Expression
+expressionOf m =
+    getD
+    (constant (m .b * 512 + m .c)
+    ∷ variable (m .a)
+    ∷ ownNumber
+    ∷ processCount
+    ∷ door (m .a)
+    ∷ slot (m .a)
+    ∷ operation sum (m .a) (m .b)
+    ∷ operation difference (m .a) (m .b)
+    ∷ operation product (m .a) (m .b)
+    ∷ operation quotient (m .a) (m .b)
+    ∷ operation less (m .a) (m .b)
+    ∷ operation equal (m .a) (m .b)
+    ∷ operation both (m .a) (m .b)
+    ∷ [])
+    (m .kind)
+    (constant 0)
+
+-- the statement that a node is; one that is none reads as nothing
+unfoldable pub statementOf : Node → Statement
+statementOf m =
+    getD
+    (nothing
+    ∷ assign (m .a) (m .b)
+    ∷ sequence (m .a) (m .b)
+    ∷ branch (m .a) (m .b) (m .c)
+    ∷ loop (m .a) (m .b)
+    ∷ call (m .a)
+    ∷ latch (m .a) (m .b)
+    ∷ collective barrier
+    ∷ collective (broadcast (m .a) (m .b) (m .c))
+    ∷ collective (exchange (m .a))
+    ∷ [])
+    (m .kind - 16)
+    nothing
+
+unfoldable pub expressionAt : List ℕ → ℕ → Expression
+expressionAt table n = expressionOf (nodeAt table n)
+
+unfoldable pub statementAt : List ℕ → ℕ → Statement
+statementAt table n = statementOf (nodeAt table n)
+
+-- what is said of a collective, and of any other statement
+abbrev pub onCollective : {A : Type 0} → Statement → (Collective → A) → A → A
+onCollective nothing meet other = other
+onCollective (assign a b) meet other = other
+onCollective (sequence a b) meet other = other
+onCollective (branch a b c) meet other = other
+onCollective (loop a b) meet other = other
+onCollective (call p) meet other = other
+onCollective (latch a b) meet other = other
+onCollective (collective k) meet other = meet k

@@ -1,0 +1,84 @@
+//! Single values, global effects and questions 1 and 13 to 17: the checker.
+
+use crate::refusal::{ask_each, Refusal};
+use crate::table::{Kind, Table};
+
+const SCRATCH_WORDS: usize = 256;
+
+/// The checker: questions 1 to 17. The judgements need no scratch here, so its
+/// first 256 words are only set to 0 as promised.
+pub fn check(table: &[u8], scratch: &mut [u32]) -> Result<(), Refusal> {
+    scratch
+        .get_mut(..SCRATCH_WORDS)
+        .ok_or(Refusal {
+            number: 1,
+            place: 0,
+        })?
+        .fill(0);
+    let table = Table::read(table)?;
+    let (nodes, procedures) = (table.nodes.len(), table.procedures.len());
+    ask_each(13, nodes, |node| table.assignment_fits(node))?;
+    ask_each(14, nodes, |node| table.source_is_single(node))?;
+    ask_each(15, nodes, |node| table.if_is_uniform(node))?;
+    ask_each(16, nodes, |node| table.while_is_uniform(node))?;
+    ask_each(17, procedures, |number| table.effect_is_flagged(number))
+}
+
+impl Table {
+    /// Whether an expression has the same value in every process.
+    fn is_single(&self, node: usize) -> bool {
+        let [a, b, _] = self.nodes[node].fields;
+        match self.nodes[node].kind {
+            Kind::Constant | Kind::Count => true,
+            Kind::Variable => self.is_flagged(a),
+            Kind::OwnNumber | Kind::Door => false,
+            Kind::Gathered => self.is_single(a),
+            _ => self.is_single(a) && self.is_single(b),
+        }
+    }
+
+    /// A call's effect is what the flag says, whatever the body does.
+    fn has_effect(&self, node: usize) -> bool {
+        let [a, b, c] = self.nodes[node].fields;
+        match self.nodes[node].kind {
+            Kind::Barrier | Kind::Broadcast | Kind::Exchange => true,
+            Kind::Assign => self.is_flagged(a),
+            Kind::Call => self.procedures[a].effect,
+            Kind::Sequence => self.has_effect(a) || self.has_effect(b),
+            Kind::If => self.has_effect(b) || self.has_effect(c),
+            Kind::While => self.has_effect(b),
+            _ => false,
+        }
+    }
+
+    /// Question 13.
+    fn assignment_fits(&self, node: usize) -> bool {
+        let [a, b, _] = self.nodes[node].fields;
+        self.nodes[node].kind != Kind::Assign || !self.is_flagged(a) || self.is_single(b)
+    }
+
+    /// Question 14.
+    fn source_is_single(&self, node: usize) -> bool {
+        let [_, _, c] = self.nodes[node].fields;
+        self.nodes[node].kind != Kind::Broadcast || self.is_single(c)
+    }
+
+    /// Question 15.
+    fn if_is_uniform(&self, node: usize) -> bool {
+        let [a, b, c] = self.nodes[node].fields;
+        let quiet = |branch| !self.has_effect(branch);
+        self.nodes[node].kind != Kind::If || self.is_single(a) || (quiet(b) && quiet(c))
+    }
+
+    /// Question 16.
+    fn while_is_uniform(&self, node: usize) -> bool {
+        let [a, b, _] = self.nodes[node].fields;
+        self.nodes[node].kind != Kind::While || self.is_single(a) || !self.has_effect(b)
+    }
+
+    /// Question 17.
+    fn effect_is_flagged(&self, number: usize) -> bool {
+        let procedure = &self.procedures[number];
+        procedure.effect || !self.has_effect(procedure.body)
+    }
+}
