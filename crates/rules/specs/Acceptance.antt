@@ -9,7 +9,7 @@ use Rattle.rules.specs.Answers.{_then_, ask, askEach}
 use Rattle.rules.specs.Judgement.{single, effect}
 use Rattle.rules.specs.Table.{flagged, effectFlag, procedures, nodes, body, statementAt}
 use Rattle.rules.specs.Table.{Statement, nothing, assign, sequence, branch, loop, call, latch, collective}
-use Rattle.rules.specs.Table.{Collective, barrier, broadcast, exchange}
+use Rattle.rules.specs.Table.{barrier, broadcast, exchange}
 use Rattle.rules.specs.WellFormed.{wellFormed}
 
 -- the words that the checker asks for and zeroes

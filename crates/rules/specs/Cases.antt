@@ -1,11 +1,10 @@
 -- The cases that the paper marks to be proved of the rules, one table of theorems, each by computation from the table's words.
-use mathlib.Core.Bool.{true, false}
 use mathlib.Core.List.{List, [], _∷_, _++_}
 use mathlib.Core.Path.{_≡_, refl}
-use Prim.Native.Nat.{ℕ, zero, suc, _+_, _-_, _*_, _/_, _%_, _^_}
+use Prim.Native.Nat.{ℕ, zero, suc, _+_, _*_, _/_, _%_, _^_}
 use lib.ListN.{getD, replicate, set, take}
 use Rattle.rules.specs.declared.Event.{Event}
-use Rattle.rules.specs.declared.Event.the-variants.{Moved, Finished, Arrived, Completed, Waiting, Ended}
+use Rattle.rules.specs.declared.Event.the-variants.{Moved, Finished, Arrived, Completed}
 use Rattle.rules.specs.declared.Stepped.{Stepped}
 use Rattle.rules.specs.declared.Stepped.the-variants.{Taken}
 use Rattle.rules.specs.declared.TeamStatus.{TeamStatus}

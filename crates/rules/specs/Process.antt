@@ -1,6 +1,6 @@
 -- "Steps of a bank": a process's words by named offsets, its stack, and one step of a statement that is no collective.
 use mathlib.Core.Bool.{Bool, true, false, cond, not}
-use mathlib.Core.List.{List, [], _∷_, _++_}
+use mathlib.Core.List.{List, _++_}
 use Prim.Native.Nat.{ℕ, zero, suc, _+_, _-_, _*_}
 use lib.Dec.{ltb, eqb}
 use lib.ListN.{getD, set, take, drop}

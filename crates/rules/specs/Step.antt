@@ -19,7 +19,7 @@ use Rattle.rules.specs.Choice.{allBelow}
 use Rattle.rules.specs.Collective.{arrivalOf, completedState, releasedRoll}
 use Rattle.rules.specs.Process.{stackAt, stackPlaces, processAt, withProcess, environment, depth, top, advanced, needsPlace}
 use Rattle.rules.specs.Start.{question20, question21}
-use Rattle.rules.specs.Table.{Statement, Collective, barrier, broadcast, exchange, statementAt, onCollective}
+use Rattle.rules.specs.Table.{Collective, barrier, broadcast, exchange, statementAt, onCollective}
 use Rattle.rules.specs.WellFormed.{wellFormed, isStatement}
 
 -- how many processes a roll has records for

@@ -1,0 +1,282 @@
+-- Laws of one process's words: what the stack's moves, a store below the stack and a collective do to the number of words, to
+-- the words below the depth, to the depth and to the stack's entries; and the stack as a list, top first.
+use mathlib.Core.Bool.{Bool, true, false, cond}
+use mathlib.Core.List.{List, [], _∷_}
+use mathlib.Core.Logic.{_≢_}
+use mathlib.Core.Path.{_≡_, refl, sym, _∙_, ap}
+use Prim.Native.Nat.{ℕ, zero, suc, _+_, _-_, _≤_, _<_}
+use native.Mathlib.Decide.{decLt}
+use native.Mathlib.Omega.{arith}
+use lib.Dec.{ltb, eqb}
+use lib.ListN.{length, getD, set, length-set}
+use lib.Seq.{getD-set-same, getD-set-other}
+use Rattle.rules.specs.Arrivals.{arrivalValue}
+use Rattle.rules.specs.Collective.{gatheredFrom, received}
+use Rattle.rules.specs.Evaluation.{Environment, value, doors}
+use Rattle.rules.specs.Process.{gatheredAt, latchesAt, depthAt, stackAt, stackPlaces, processWords}
+use Rattle.rules.specs.Process.{depth, top, popped, replaced, pushed, advanced}
+use Rattle.rules.specs.Table.{Statement, nothing, assign, sequence, branch, loop, call, latch, collective}
+use Rattle.rules.specs.Table.{Collective, barrier, broadcast, exchange}
+
+-- the stack entry at height i, the lowest at 0
+abbrev pub entry : List ℕ → ℕ → ℕ
+entry words i = getD words (stackAt + i) 0
+
+-- the entries below height k, the highest first
+abbrev pub stackOf : List ℕ → ℕ → List ℕ
+stackOf words zero = []
+stackOf words (suc k) = entry words k ∷ stackOf words k
+
+-- the stack, top first
+abbrev pub stack : List ℕ → List ℕ
+stack words = stackOf words (depth words)
+
+-- the number of words
+
+pub popped-length : (words : List ℕ) → length (popped words) ≡ length words
+unfolding popped
+popped-length words = simp length-set
+
+pub replaced-length : (words : List ℕ) (n : ℕ) → length (replaced words n) ≡ length words
+unfolding replaced
+replaced-length words n = simp length-set
+
+pub pushed-length : (words : List ℕ) (n : ℕ) → length (pushed words n) ≡ length words
+unfolding pushed
+pushed-length words n = simp length-set
+
+pub gathered-length : (roll : List ℕ) (count : ℕ) (words : List ℕ) → length (gatheredFrom roll count words) ≡ length words
+unfolding gatheredFrom
+gathered-length roll zero words = refl
+gathered-length roll (suc n) words =
+    length-set (gatheredFrom roll n words) (gatheredAt + n) (arrivalValue roll n) ∙ gathered-length roll n words
+
+pub received-length : (roll : List ℕ) (count : ℕ) (k : Collective) (p : ℕ) (words : List ℕ)
+    → length (received roll count k p words) ≡ length words
+unfolding received
+received-length roll count barrier p words = refl
+received-length roll count (broadcast a b c) p words = simp length-set
+received-length roll count (exchange a) p words = gathered-length roll count words
+
+-- the words that a latch statement stores to
+pub latched-length : (words : List ℕ) (test : Bool) (a v : ℕ) → length (cond test (set words a v) words) ≡ length words
+latched-length words true a v = length-set words a v
+latched-length words false a v = refl
+
+looped-length : (words : List ℕ) (test : Bool) (n : ℕ) → length (cond test (popped words) (pushed words n)) ≡ length words
+looped-length words true n = popped-length words
+looped-length words false n = pushed-length words n
+
+pub advanced-length : (table : List ℕ) (env : Environment) (words : List ℕ) (s : Statement)
+    → length (advanced table env words s) ≡ length words
+unfolding advanced
+advanced-length table env words nothing = popped-length words
+advanced-length table env words (assign a b) = popped-length (set words a (value table env b)) ∙ simp length-set
+advanced-length table env words (sequence a b) = pushed-length (replaced words b) a ∙ replaced-length words b
+advanced-length table env words (branch a b c) = replaced-length words _
+advanced-length table env words (loop a b) = looped-length words (eqb (value table env a) 0) b
+advanced-length table env words (call p) = replaced-length words _
+advanced-length table env words (latch a b) =
+    popped-length (cond (ltb (value table env a) doors) (set words (latchesAt + value table env a) (value table env b)) words)
+    ∙ latched-length words (ltb (value table env a) doors) (latchesAt + value table env a) (value table env b)
+advanced-length table env words (collective k) = refl
+
+-- the words below the depth
+
+pub popped-below : (words : List ℕ) (j : ℕ) → j < depthAt → getD (popped words) j 0 ≡ getD words j 0
+unfolding popped
+popped-below words j h =
+    getD-set-other (set words (depthAt + depth words) 0) depthAt j (depth words - 1) 0 (omega arith)
+    ∙ getD-set-other words (depthAt + depth words) j 0 0 (omega arith)
+
+pub replaced-below : (words : List ℕ) (n j : ℕ) → j < depthAt → getD (replaced words n) j 0 ≡ getD words j 0
+unfolding replaced
+replaced-below words n j h = getD-set-other words (depthAt + depth words) j n 0 (omega arith)
+
+pub pushed-below : (words : List ℕ) (n j : ℕ) → j < depthAt → getD (pushed words n) j 0 ≡ getD words j 0
+unfolding pushed
+pushed-below words n j h =
+    getD-set-other (set words (stackAt + depth words) n) depthAt j (depth words + 1) 0 (omega arith)
+    ∙ getD-set-other words (stackAt + depth words) j n 0 (omega arith)
+
+-- a store below the depth keeps depth and entries
+
+pub set-depth : (words : List ℕ) (a v : ℕ) → a < depthAt → depth (set words a v) ≡ depth words
+unfolding depth
+set-depth words a v h = getD-set-other words a depthAt v 0 (omega arith)
+
+pub set-entry : (words : List ℕ) (a v i : ℕ) → a < depthAt → entry (set words a v) i ≡ entry words i
+set-entry words a v i h = getD-set-other words a (stackAt + i) v 0 (omega arith)
+
+pub gathered-depth : (roll : List ℕ) (count : ℕ) (words : List ℕ) → count ≤ 16
+    → depth (gatheredFrom roll count words) ≡ depth words
+unfolding gatheredFrom
+gathered-depth roll zero words h = refl
+gathered-depth roll (suc n) words h =
+    set-depth (gatheredFrom roll n words) (gatheredAt + n) (arrivalValue roll n) (omega arith)
+    ∙ gathered-depth roll n words (omega arith)
+
+pub gathered-entry : (roll : List ℕ) (count : ℕ) (words : List ℕ) (i : ℕ) → count ≤ 16
+    → entry (gatheredFrom roll count words) i ≡ entry words i
+unfolding gatheredFrom
+gathered-entry roll zero words i h = refl
+gathered-entry roll (suc n) words i h =
+    set-entry (gatheredFrom roll n words) (gatheredAt + n) (arrivalValue roll n) i (omega arith)
+    ∙ gathered-entry roll n words i (omega arith)
+
+-- depth and entries after a move of the stack
+
+module _ (words : List ℕ) (sized : length words ≡ processWords) where
+  pub popped-depth : depth (popped words) ≡ depth words - 1
+  unfolding popped
+  popped-depth = unfold depth in
+      getD-set-same (set words (depthAt + depth words) 0) depthAt (depth words - 1) 0
+      (simp length-set (omega arith))
+
+  pub replaced-depth : (n : ℕ) → 0 < depth words → depth (replaced words n) ≡ depth words
+  unfolding replaced
+  replaced-depth n h = unfold depth in getD-set-other words (depthAt + depth words) depthAt n 0 (omega arith)
+
+  pub pushed-depth : (n : ℕ) → depth (pushed words n) ≡ depth words + 1
+  unfolding pushed
+  pushed-depth n = unfold depth in
+      getD-set-same (set words (stackAt + depth words) n) depthAt (depth words + 1) 0
+      (simp length-set (omega arith))
+
+  pub top-entry : 0 < depth words → top words ≡ entry words (depth words - 1)
+  unfolding top
+  top-entry h = let e : depthAt + depth words ≡ stackAt + (depth words - 1) = omega arith in rw e
+
+  pub popped-entry : (i : ℕ) → i < depth words - 1 → entry (popped words) i ≡ entry words i
+  unfolding popped
+  popped-entry i h =
+      getD-set-other (set words (depthAt + depth words) 0) depthAt (stackAt + i) (depth words - 1) 0 (omega arith)
+      ∙ getD-set-other words (depthAt + depth words) (stackAt + i) 0 0 (omega arith)
+
+  pub replaced-entry : (n i : ℕ) → i < depth words - 1 → entry (replaced words n) i ≡ entry words i
+  unfolding replaced
+  replaced-entry n i h = getD-set-other words (depthAt + depth words) (stackAt + i) n 0 (omega arith)
+
+  pub replaced-top : (n : ℕ) → 0 < depth words → depth words ≤ stackPlaces
+      → entry (replaced words n) (depth words - 1) ≡ n
+  unfolding replaced
+  replaced-top n h b =
+      let e : stackAt + (depth words - 1) ≡ depthAt + depth words = omega arith in
+      rw e (getD-set-same words (depthAt + depth words) n 0 (omega arith))
+
+  pub pushed-entry : (n i : ℕ) → i < depth words → entry (pushed words n) i ≡ entry words i
+  unfolding pushed
+  pushed-entry n i h =
+      getD-set-other (set words (stackAt + depth words) n) depthAt (stackAt + i) (depth words + 1) 0 (omega arith)
+      ∙ getD-set-other words (stackAt + depth words) (stackAt + i) n 0 (omega arith)
+
+  pub pushed-top : (n : ℕ) → depth words < stackPlaces → entry (pushed words n) (depth words) ≡ n
+  unfolding pushed
+  pushed-top n h =
+      getD-set-other (set words (stackAt + depth words) n) depthAt (stackAt + depth words) (depth words + 1) 0 (omega arith)
+      ∙ getD-set-same words (stackAt + depth words) n 0 (omega arith)
+
+-- the stack as a list
+
+pub stackOf-kept : (words others : List ℕ) (k : ℕ) → ((i : ℕ) → i < k → entry words i ≡ entry others i)
+    → stackOf words k ≡ stackOf others k
+stackOf-kept words others zero h = refl
+stackOf-kept words others (suc k) h =
+    let here : entry words k ≡ entry others k = h k (omega arith) in
+    let rest : stackOf words k ≡ stackOf others k = stackOf-kept words others k (λ i l. h i (omega arith)) in
+    cc
+
+-- two stacks of one depth and with the same entries
+pub stack-kept : (words others : List ℕ) → depth words ≡ depth others
+    → ((i : ℕ) → i < depth words → entry words i ≡ entry others i) → stack words ≡ stack others
+stack-kept words others e h = stackOf-kept words others (depth words) h ∙ ap (stackOf others) e
+
+pub stack-set : (words : List ℕ) (a v : ℕ) → a < depthAt → stack (set words a v) ≡ stack words
+stack-set words a v h =
+    stack-kept (set words a v) words (set-depth words a v h) (λ i l. set-entry words a v i h)
+
+pub stack-gathered : (roll : List ℕ) (count : ℕ) (words : List ℕ) → count ≤ 16
+    → stack (gatheredFrom roll count words) ≡ stack words
+stack-gathered roll count words h =
+    stack-kept (gatheredFrom roll count words) words (gathered-depth roll count words h)
+    (λ i l. gathered-entry roll count words i h)
+
+module _ (words : List ℕ) (sized : length words ≡ processWords) where
+  pub stack-top : 0 < depth words → stack words ≡ top words ∷ stackOf words (depth words - 1)
+  stack-top h =
+      let e : depth words ≡ suc (depth words - 1) = omega arith in
+      ap (stackOf words) e ∙ ap (λ n. n ∷ stackOf words (depth words - 1)) (sym (top-entry words sized h))
+
+  pub stack-popped : stack (popped words) ≡ stackOf words (depth words - 1)
+  stack-popped =
+      ap (stackOf (popped words)) (popped-depth words sized)
+      ∙ stackOf-kept (popped words) words (depth words - 1) (popped-entry words sized)
+
+  pub stack-replaced : (n : ℕ) → 0 < depth words → depth words ≤ stackPlaces
+      → stack (replaced words n) ≡ n ∷ stackOf words (depth words - 1)
+  stack-replaced n h b =
+      let e : depth (replaced words n) ≡ suc (depth words - 1) = omega (arith, replaced-depth words sized n h) in
+      let here : entry (replaced words n) (depth words - 1) ≡ n = replaced-top words sized n h b in
+      let rest : stackOf (replaced words n) (depth words - 1) ≡ stackOf words (depth words - 1) =
+      stackOf-kept (replaced words n) words (depth words - 1) (replaced-entry words sized n) in
+      ap (stackOf (replaced words n)) e ∙ cc
+
+  pub stack-pushed : (n : ℕ) → depth words < stackPlaces → stack (pushed words n) ≡ n ∷ stack words
+  stack-pushed n b =
+      let e : depth (pushed words n) ≡ suc (depth words) = omega (arith, pushed-depth words sized n) in
+      let here : entry (pushed words n) (depth words) ≡ n = pushed-top words sized n b in
+      let rest : stackOf (pushed words n) (depth words) ≡ stackOf words (depth words) =
+      stackOf-kept (pushed words n) words (depth words) (pushed-entry words sized n) in
+      ap (stackOf (pushed words n)) e ∙ cc
+
+-- what a process takes away from a collective leaves its stack alone
+
+-- a broadcast stores to a variable
+abbrev pub StoresLow : Collective → Type 0
+StoresLow k = (a b c : ℕ) → k ≡ broadcast a b c → a < depthAt
+
+pub received-depth : (roll : List ℕ) (count : ℕ) (k : Collective) (p : ℕ) (words : List ℕ) → count ≤ 16 → StoresLow k
+    → depth (received roll count k p words) ≡ depth words
+unfolding received
+received-depth roll count barrier p words h low = refl
+received-depth roll count (broadcast a b c) p words h low = set-depth words a _ (low a b c refl)
+received-depth roll count (exchange a) p words h low = gathered-depth roll count words h
+
+pub received-entry : (roll : List ℕ) (count : ℕ) (k : Collective) (p : ℕ) (words : List ℕ) (i : ℕ) → count ≤ 16 → StoresLow k
+    → entry (received roll count k p words) i ≡ entry words i
+unfolding received
+received-entry roll count barrier p words i h low = refl
+received-entry roll count (broadcast a b c) p words i h low = set-entry words a _ i (low a b c refl)
+received-entry roll count (exchange a) p words i h low = gathered-entry roll count words i h
+
+pub stack-received : (roll : List ℕ) (count : ℕ) (k : Collective) (p : ℕ) (words : List ℕ) → count ≤ 16 → StoresLow k
+    → stack (received roll count k p words) ≡ stack words
+stack-received roll count k p words h low =
+    stack-kept (received roll count k p words) words (received-depth roll count k p words h low)
+    (λ i l. received-entry roll count k p words i h low)
+
+-- the gathered words: the value of each process below the count, and the other words as they were
+
+pub gathered-other : (roll : List ℕ) (count : ℕ) (words : List ℕ) (j : ℕ)
+    → ((i : ℕ) → i < count → j ≢ gatheredAt + i) → getD (gatheredFrom roll count words) j 0 ≡ getD words j 0
+unfolding gatheredFrom
+gathered-other roll zero words j h = refl
+gathered-other roll (suc n) words j h =
+    getD-set-other (gatheredFrom roll n words) (gatheredAt + n) j (arrivalValue roll n) 0 (h n (omega arith))
+    ∙ gathered-other roll n words j (λ i l. h i (omega arith))
+
+pub gathered-at : (roll : List ℕ) (count : ℕ) (words : List ℕ) (i : ℕ) → length words ≡ processWords → count ≤ 16 → i < count
+    → getD (gatheredFrom roll count words) (gatheredAt + i) 0 ≡ arrivalValue roll i
+unfolding gatheredFrom
+gathered-at roll zero words i sized h l = absurd (omega arith)
+gathered-at roll (suc n) words i sized h l =
+    elim (decLt i n) [
+      | yes b ↦
+          getD-set-other (gatheredFrom roll n words) (gatheredAt + n) (gatheredAt + i) (arrivalValue roll n) 0 (omega arith)
+          ∙ gathered-at roll n words i sized (omega arith) b
+      | no b ↦
+          let e : i ≡ n = omega arith in
+          rw e
+          (getD-set-same (gatheredFrom roll n words) (gatheredAt + n) (arrivalValue roll n) 0
+          (omega (arith, gathered-length roll n words)))
+    ]
