@@ -1,0 +1,17 @@
+// Reads a table on standard input and prints the checker's answer.
+use checker::check;
+use libc::STDIN_FILENO;
+use rules::Verdict;
+
+// A word more than the longest table, so that longer input is refused by its length.
+const INPUT_BYTES: usize = 1100;
+
+fn main() {
+    let mut input = [0u8; INPUT_BYTES];
+    let mut scratch = [0u32; 256];
+    let n = io::read_full(STDIN_FILENO, &mut input);
+    match check(&input[..n], &mut scratch) {
+        Verdict::Accepted => report::accepted(),
+        Verdict::Refused(refusal) => report::refusal(refusal),
+    }
+}

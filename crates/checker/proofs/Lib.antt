@@ -1,0 +1,6 @@
+-- Laws that the proofs of this crate share.
+pub mod HeaderLaws
+pub mod NodeLaws
+pub mod PlaneLaws
+pub mod RuleLaws
+pub mod ScratchLaws

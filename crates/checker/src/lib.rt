@@ -1,0 +1,63 @@
+// The checker: question 1, then 2 to 12, then 13 to 17, in lent scratch.
+ghost use mathlib.Core.Path.{_≡_};
+ghost use lib.ListN.{length, replicate};
+ghost use Rattle.rules.specs.Acceptance.{judged, checked, checkedScratch};
+ghost use Rattle.rules.specs.Answers.{_then_};
+ghost use Rattle.rules.specs.WellFormed.{wellFormed};
+ghost use Rattle.rules.specs.declared.Verdict.the-variants.{Accepted};
+ghost use Rattle.checker.specs.Planes.{planeWords, usedWords};
+use crate::judgement::judge_nodes;
+use crate::questions::ask;
+use rules::Verdict;
+use table::marks::clear;
+use table::shape::refused;
+use table::well_formed;
+use table::words::header;
+
+mod judgement; // judgement.rt: single values and effects as bits
+mod questions; // questions.rt: questions 13 to 17
+
+// What question 1 asks for.
+const SCRATCH_WORDS: usize = 256;
+
+// The marks of questions 2 to 12.
+const MARK_WORDS: usize = 8;
+
+// The marks, then the planes of questions 13 to 17.
+const USED_WORDS: usize = 24;
+
+// Questions 13 to 17.
+fn judge(table: &[u8], planes: &mut [u32]) -> Verdict
+    requires { ⌜ (wellFormed (now table) ≡ Accepted) × (now planes ≡ replicate planeWords 0) ⌝ }
+    ensures { λ r. ⌜ r ≡ judged (now (table .entry)) ⌝ }
+{
+    let counts = header(table);
+    judge_nodes(table, counts, planes);
+    ask(table, counts, planes)
+}
+
+// Questions 2 to 17.
+fn answer(table: &[u8], words: &mut [u32]) -> Verdict
+    requires { ⌜ now words ≡ replicate usedWords 0 ⌝ }
+    ensures { λ r. ⌜ r ≡ (wellFormed (now (table .entry)) then judged (now (table .entry))) ⌝ }
+{
+    let verdict = well_formed(table, &mut words[0..MARK_WORDS]);
+    match verdict {
+        Verdict::Accepted => judge(table, &mut words[MARK_WORDS..USED_WORDS]),
+        Verdict::Refused(_) => verdict,
+    }
+}
+
+// The scratch may hold anything before.
+pub fn check(table: &[u8], scratch: &mut [u32]) -> Verdict
+    ensures { λ r. ⌜ (r ≡ checked (now (table .entry)) (now (scratch .entry)))
+        × (now (scratch .exit) ≡ checkedScratch (now (scratch .entry))) ⌝ }
+{
+    if scratch.len() < SCRATCH_WORDS {
+        return refused(1, 0);
+    }
+    clear(&mut scratch[0..SCRATCH_WORDS]);
+    let verdict = answer(table, &mut scratch[0..USED_WORDS]);
+    clear(&mut scratch[0..USED_WORDS]);
+    verdict
+}

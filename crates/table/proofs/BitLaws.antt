@@ -1,0 +1,149 @@
+-- Laws of marks: marking sets exactly that bit and keeps the length; zeroed words mark nothing.
+use mathlib.Core.Bool.{true, false}
+use mathlib.Core.List.{List}
+use mathlib.Core.Logic.{⊎-elim}
+use mathlib.Core.Path.{_≡_, sym, _∙_, ap}
+use Prim.Native.Nat.{ℕ, _+_, _-_, _*_, _/_, _%_, _^_, _≤_, _<_}
+use native.Mathlib.Decide.{decLt, ℕ-discrete}
+use native.Mathlib.Nat.{add-div-right, add-mul-div-left, zero-div, one-mul}
+use native.Mathlib.Omega.{arith}
+use lib.Dec.{eqb}
+use lib.ListN.{length, getD, set, replicate, length-set, length-replicate, getD-replicate, List·getD-eq-default}
+use lib.Pow.{pow-pos, pow-add, shl-exact, shr-shr}
+use lib.Seq.{getD-set-same, getD-set-other, set-out}
+use borrow.Author.Tests.{eq-eqb, eqb-false}
+use Rattle.rules.proofs.ChoiceLaws.{bool-cases}
+use Rattle.table.specs.Marks.{hasBit, bitAt, withBit}
+
+-- a word's bit k is clear: what its places are after 2 ^ k is added
+
+module _ (w k : ℕ) (clear : hasBit w k ≡ false) where
+  even : w / 2 ^ k % 2 ≡ 0
+  unfolding hasBit
+  even = omega (arith, eqb-false (w / 2 ^ k % 2) 1 clear)
+
+  at-place : (w + 2 ^ k) / 2 ^ k ≡ w / 2 ^ k + 1
+  at-place = add-div-right w (pow-pos k)
+
+  -- the places above stay
+  pub above-place : (d : ℕ) → (w + 2 ^ k) / 2 ^ (k + (1 + d)) ≡ w / 2 ^ (k + (1 + d))
+  above-place d =
+      let q = w / 2 ^ k in
+      let halves : (q + 1) / 2 ≡ q / 2 = omega (arith, even) in
+      sym (shr-shr (w + 2 ^ k) k (1 + d))
+      ∙ ap (λ (x : ℕ). x / 2 ^ (1 + d)) at-place
+      ∙ sym (shr-shr (q + 1) 1 d)
+      ∙ ap (λ (x : ℕ). x / 2 ^ d) halves
+      ∙ shr-shr q 1 d
+      ∙ shr-shr w k (1 + d)
+
+-- below the place only an even number is added
+below-place : (w j d : ℕ) → (w + 2 ^ (j + (1 + d))) / 2 ^ j % 2 ≡ w / 2 ^ j % 2
+below-place w j d =
+    let double : 2 ^ (1 + d) ≡ 2 * 2 ^ d = pow-add 2 1 d in
+    let plus : (w + 2 ^ (j + (1 + d))) / 2 ^ j ≡ w / 2 ^ j + 2 ^ (1 + d) =
+    rw (pow-add 2 j (1 + d)) (add-mul-div-left w (2 ^ (1 + d)) (pow-pos j)) in
+    omega arith
+
+pub bit-added : (w k : ℕ) → hasBit w k ≡ false → hasBit (w + 2 ^ k) k ≡ true
+unfolding hasBit
+bit-added w k clear =
+    eq-eqb ((w + 2 ^ k) / 2 ^ k % 2) 1 (omega (arith, even w k clear, at-place w k clear))
+
+pub bit-kept : (w k j : ℕ) → (j ≡ k → ⊥) → hasBit w k ≡ false → hasBit (w + 2 ^ k) j ≡ hasBit w j
+unfolding hasBit
+bit-kept w k j other clear =
+    elim (decLt j k) [
+      | yes l ↦
+          let e : j + (1 + (k - (j + 1))) ≡ k = omega arith in
+          let same : (w + 2 ^ k) / 2 ^ j % 2 ≡ w / 2 ^ j % 2 = rw e at (below-place w j (k - (j + 1))) in
+          ap (λ (x : ℕ). eqb x 1) same
+      | no m ↦
+          let e : k + (1 + (j - (k + 1))) ≡ j = omega arith in
+          let same : (w + 2 ^ k) / 2 ^ j ≡ w / 2 ^ j = rw e at (above-place w k clear (j - (k + 1))) in
+          ap (λ (x : ℕ). eqb (x % 2) 1) same
+    ]
+
+-- a word of 32 bits stays one
+pub added-fits : (w k : ℕ) → k < 32 → w < 2 ^ 32 → hasBit w k ≡ false → w + 2 ^ k < 2 ^ 32
+added-fits w k l fits clear =
+    let e : k + (1 + (31 - k)) ≡ 32 = omega arith in
+    let same : (w + 2 ^ k) / 2 ^ 32 ≡ w / 2 ^ 32 = rw e at (above-place w k clear (31 - k)) in
+    omega arith
+
+-- the code's shift
+pub shifted : (k : ℕ) → k < 32 → (1 * 2 ^ k) % 2 ^ 32 ≡ 2 ^ k
+shifted k l = shl-exact {a = 1} 1 k 32 (omega arith) (omega arith) ∙ one-mul (2 ^ k)
+
+-- marks
+
+pub length-withBit : (m : List ℕ) (n : ℕ) → length (withBit m n) ≡ length m
+unfolding withBit
+length-withBit m n =
+    ⊎-elim
+    (λ (e : bitAt m n ≡ true). simp e)
+    (λ (e : bitAt m n ≡ false). simp (e, length-set))
+    (bool-cases (bitAt m n))
+
+set-same : (m : List ℕ) (n : ℕ) → n < 32 * length m → bitAt m n ≡ false
+    → bitAt (set m (n / 32) (getD m (n / 32) 0 + 2 ^ (n % 32))) n ≡ true
+unfolding bitAt
+set-same m n l clear =
+    let inside : n / 32 < length m = omega arith in
+    rw (getD-set-same m (n / 32) (getD m (n / 32) 0 + 2 ^ (n % 32)) 0 inside)
+    (bit-added (getD m (n / 32) 0) (n % 32) clear)
+
+set-other : (m : List ℕ) (n k : ℕ) → (k ≡ n → ⊥) → bitAt m n ≡ false
+    → bitAt (set m (n / 32) (getD m (n / 32) 0 + 2 ^ (n % 32))) k ≡ bitAt m k
+unfolding bitAt
+set-other m n k other clear =
+    let v = getD m (n / 32) 0 + 2 ^ (n % 32) in
+    elim (decLt (n / 32) (length m)) [
+      | yes inside ↦
+          elim (ℕ-discrete (k / 32) (n / 32)) [
+            | yes same ↦
+                let apart : k % 32 ≡ n % 32 → ⊥ = λ e. other (omega arith) in
+                rw (same, getD-set-same m (n / 32) v 0 inside) (bit-kept (getD m (n / 32) 0) (n % 32) (k % 32) apart clear)
+            | no word ↦ rw (getD-set-other m (n / 32) (k / 32) v 0 word)
+          ]
+      | no outside ↦ let past : length m ≤ n / 32 = omega arith in rw (set-out m (n / 32) v past)
+    ]
+
+-- marking sets the bit
+pub bit-same : (m : List ℕ) (n : ℕ) → n < 32 * length m → bitAt (withBit m n) n ≡ true
+unfolding withBit
+bit-same m n l =
+    ⊎-elim
+    (λ (e : bitAt m n ≡ true). simp e)
+    (λ (e : bitAt m n ≡ false). simp e (set-same m n l e))
+    (bool-cases (bitAt m n))
+
+-- and no other
+pub bit-other : (m : List ℕ) (n k : ℕ) → (k ≡ n → ⊥) → bitAt (withBit m n) k ≡ bitAt m k
+unfolding withBit
+bit-other m n k other =
+    ⊎-elim
+    (λ (e : bitAt m n ≡ true). simp e)
+    (λ (e : bitAt m n ≡ false). simp e (set-other m n k other e))
+    (bool-cases (bitAt m n))
+
+-- zeroed words mark nothing
+pub bit-zero : (count k : ℕ) → bitAt (replicate count 0) k ≡ false
+unfolding bitAt hasBit
+bit-zero count k =
+    let word : getD {A = ℕ} (replicate count 0) (k / 32) 0 ≡ 0 =
+    elim (decLt (k / 32) count) [
+      | yes l ↦ getD-replicate count (k / 32) 0 0 l
+      | no m ↦
+          List·getD-eq-default {A = ℕ} (replicate count 0) 0
+          (let past : count ≤ k / 32 = omega arith in simp length-replicate past)
+    ] in
+    simp (word, zero-div)
+
+pub bit-clear : (m : List ℕ) (n : ℕ) → bitAt m n ≡ false → hasBit (getD m (n / 32) 0) (n % 32) ≡ false
+unfolding bitAt
+bit-clear m n e = e
+
+-- eight words cleared
+pub cleared : (after m : List ℕ) → after ≡ replicate (length m) 0 → length m ≡ 8 → after ≡ replicate 8 0
+cleared after m e eight = e ∙ ap (λ (k : ℕ). replicate k 0) eight

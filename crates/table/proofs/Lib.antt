@@ -1,0 +1,12 @@
+-- Laws that the proofs of this crate share.
+pub mod BitLaws
+pub mod ShapeLaws
+pub mod RoleLaws
+pub mod PlaceLaws
+pub mod UseLaws
+pub mod OnceLaws
+pub mod FittingLaws
+pub mod TreeLaws
+pub mod WalkLaws
+pub mod CallLaws
+pub mod FormedLaws

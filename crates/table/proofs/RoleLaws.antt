@@ -1,0 +1,194 @@
+-- The roles of a node's fields say the same as the definitions of questions 8, 9 and 11 by kind: one law each, at every kind.
+use mathlib.Core.Bool.{true, false, cond, not, _&&_, _||_, and-true, and-assoc, or-true}
+use mathlib.Core.List.{List, _++_}
+use mathlib.Core.Path.{_≡_, refl, sym}
+use Prim.Native.Nat.{ℕ, zero, suc, _+_, _-_, _≤_, _<_}
+use native.Mathlib.Decide.{decLt}
+use native.Mathlib.Nat.{zero-div}
+use native.Mathlib.Omega.{arith}
+use lib.Dec.{ltb, eqb}
+use borrow.Author.Tests.{ne-eqb}
+use lib.ListN.{getD, List·getD-eq-default}
+use Rattle.rules.specs.declared.Node.{Node}
+use Rattle.rules.specs.Choice.{allBelow}
+use Rattle.rules.specs.Table.{procedures, body}
+use Rattle.rules.specs.Table.{constant, nothing, nodeAt, expressionOf, statementOf, expressionAt, statementAt}
+use Rattle.rules.specs.WellFormed.{namedFields, unnamedZero, expressionFits, collectiveFits, statementFits, nodeFits}
+use Rattle.rules.specs.WellFormed.{expressionParts, collectiveParts, statementParts, partsAt, inTree, calledBelow}
+use Rattle.rules.proofs.ChoiceLaws.{all-true}
+use Rattle.table.specs.Roles.{roles, roleOf, fieldZero, fieldFits, fieldParts}
+use Rattle.table.specs.Uses.{callsBelow, ownCalls}
+
+-- P holds of each kind 0 to 25, and of those above, so of every kind
+data Each (P : ℕ → Type 0) : ℕ → Type 0 where
+  none : Each P zero
+  _also_ : {n : ℕ} → Each P n → P n → Each P (suc n)
+
+infixl 10 _also_
+each-below : (P : ℕ → Type 0) (n : ℕ) → Each P n → (k : ℕ) → k < n → P k
+each-below P zero none k l = absurd (omega arith)
+each-below P (suc n) (earlier also here) k l =
+    elim (decLt k n) [ yes m ↦ each-below P n earlier k m | no m ↦ let e : k ≡ n = omega arith in rw e here ]
+
+each-kind : (P : ℕ → Type 0) → Each P 26 → ((k : ℕ) → 26 ≤ k → P k) → (k : ℕ) → P k
+each-kind P known unknown k = elim (decLt k 26) [ yes l ↦ each-below P 26 known k l | no m ↦ unknown k (omega arith) ]
+
+abbrev node : ℕ → ℕ → ℕ → ℕ → Node
+node k a b c = record { kind = k; a = a; b = b; c = c }
+
+-- an unknown kind names nothing
+thirteen : ℕ → ℕ
+thirteen n = suc (suc (suc (suc (suc (suc (suc (suc (suc (suc (suc (suc (suc n))))))))))))
+
+thirteen-more : (k : ℕ) → 13 ≤ k → k ≡ thirteen (k - 13)
+unfolding thirteen
+thirteen-more k h = omega arith
+
+module _ (k a b c : ℕ) (h : 26 ≤ k) where
+  expression-unknown : expressionOf (node k a b c) ≡ constant 0
+  unfolding expressionOf thirteen
+  expression-unknown = rw (thirteen-more k (omega arith))
+
+  statement-unknown : statementOf (node k a b c) ≡ nothing
+  unfolding statementOf
+  statement-unknown =
+      let e : k - 16 ≡ suc (suc (suc (suc (suc (suc (suc (suc (suc (suc (k - 26)))))))))) = omega arith in rw e
+
+role-unknown : (k place : ℕ) → 26 ≤ k → roleOf k place ≡ 0
+unfolding roleOf roles
+role-unknown k place h =
+    let none : getD roles k 0 ≡ 0 = List·getD-eq-default roles 0 {n = k} h in
+    simp (none, zero-div)
+
+named-unknown : (k : ℕ) → 26 ≤ k → namedFields k ≡ 0
+unfolding namedFields thirteen
+named-unknown k h =
+    let e : k ≡ thirteen (thirteen (k - 26)) = omega arith in rw e
+
+-- question 8
+abbrev ZeroAt : ℕ → Type 0
+ZeroAt k =
+    (a b c : ℕ)
+    → unnamedZero (node k a b c) ≡ (fieldZero (roleOf k 100) a && (fieldZero (roleOf k 10) b && fieldZero (roleOf k 1) c))
+
+zero-known : Each ZeroAt 26
+unfolding unnamedZero namedFields roleOf roles fieldZero
+zero-known =
+    none also (λ a b c. simp (and-true, and-assoc)) also (λ a b c. refl) also (λ a b c. simp (and-true, and-assoc))
+    also (λ a b c. simp (and-true, and-assoc)) also (λ a b c. refl) also (λ a b c. refl) also (λ a b c. refl)
+    also (λ a b c. refl) also (λ a b c. refl) also (λ a b c. refl) also (λ a b c. refl) also (λ a b c. refl)
+    also (λ a b c. refl) also (λ a b c. simp (and-true, and-assoc)) also (λ a b c. simp (and-true, and-assoc))
+    also (λ a b c. simp (and-true, and-assoc)) also (λ a b c. simp (and-true, and-assoc)) also (λ a b c. refl)
+    also (λ a b c. refl) also (λ a b c. refl) also (λ a b c. refl) also (λ a b c. refl) also (λ a b c. refl)
+    also (λ a b c. simp (and-true, and-assoc)) also (λ a b c. refl) also (λ a b c. refl)
+
+zero-unknown : (k : ℕ) → 26 ≤ k → ZeroAt k
+unfolding unnamedZero fieldZero
+zero-unknown k h a b c =
+    let other : eqb k 0 ≡ false = ne-eqb k 0 (λ e. omega arith) in
+    simp (other, named-unknown k h, role-unknown k 100 h, role-unknown k 10 h, role-unknown k 1 h, and-assoc)
+
+pub zero-law : (m : Node) → unnamedZero m
+    ≡ (fieldZero (roleOf (m .kind) 100) (m .a) && (fieldZero (roleOf (m .kind) 10) (m .b) && fieldZero (roleOf (m .kind) 1) (m .c)))
+zero-law m = each-kind ZeroAt zero-known zero-unknown (m .kind) (m .a) (m .b) (m .c)
+
+-- question 9
+module _ (table : List ℕ) (n : ℕ) where
+  abbrev FitsAt : ℕ → Type 0
+  FitsAt k =
+      (a b c : ℕ)
+      → (expressionFits table n (expressionOf (node k a b c)) && statementFits table n (statementOf (node k a b c)))
+      ≡ (fieldFits table n (roleOf k 100) a && (fieldFits table n (roleOf k 10) b && fieldFits table n (roleOf k 1) c))
+
+  fits-known : Each FitsAt 26
+  unfolding expressionOf statementOf expressionFits collectiveFits statementFits roleOf roles fieldFits
+  fits-known =
+      none also (λ a b c. refl) also (λ a b c. simp (and-true, and-assoc)) also (λ a b c. refl) also (λ a b c. refl)
+      also (λ a b c. simp (and-true, and-assoc)) also (λ a b c. simp (and-true, and-assoc))
+      also (λ a b c. simp (and-true, and-assoc)) also (λ a b c. simp (and-true, and-assoc))
+      also (λ a b c. simp (and-true, and-assoc)) also (λ a b c. simp (and-true, and-assoc))
+      also (λ a b c. simp (and-true, and-assoc)) also (λ a b c. simp (and-true, and-assoc))
+      also (λ a b c. simp (and-true, and-assoc)) also (λ a b c. refl) also (λ a b c. refl) also (λ a b c. refl)
+      also (λ a b c. refl) also (λ a b c. simp (and-true, and-assoc)) also (λ a b c. simp (and-true, and-assoc))
+      also (λ a b c. simp (and-true, and-assoc)) also (λ a b c. simp (and-true, and-assoc))
+      also (λ a b c. simp (and-true, and-assoc)) also (λ a b c. simp (and-true, and-assoc)) also (λ a b c. refl)
+      also (λ a b c. simp (and-true, and-assoc)) also (λ a b c. simp (and-true, and-assoc))
+
+  fits-unknown : (k : ℕ) → 26 ≤ k → FitsAt k
+  unfolding expressionFits statementFits fieldFits
+  fits-unknown k h a b c =
+      simp
+      (expression-unknown k a b c h, statement-unknown k a b c h, role-unknown k 100 h, role-unknown k 10 h, role-unknown k 1 h)
+
+  pub fits-law : nodeFits table n
+      ≡ (fieldFits table n (roleOf (nodeAt table n .kind) 100) (nodeAt table n .a)
+      && (fieldFits table n (roleOf (nodeAt table n .kind) 10) (nodeAt table n .b)
+      && fieldFits table n (roleOf (nodeAt table n .kind) 1) (nodeAt table n .c)))
+  unfolding nodeFits expressionAt statementAt
+  fits-law =
+      let m = nodeAt table n in
+      each-kind FitsAt fits-known fits-unknown (m .kind) (m .a) (m .b) (m .c)
+
+-- question 11: the parts that a node names
+abbrev PartsAt : ℕ → Type 0
+PartsAt k =
+    (a b c : ℕ)
+    → (expressionParts (expressionOf (node k a b c)) ++ statementParts (statementOf (node k a b c)))
+    ≡ fieldParts (roleOf k 100) a ++ (fieldParts (roleOf k 10) b ++ fieldParts (roleOf k 1) c)
+
+parts-known : Each PartsAt 26
+unfolding expressionOf statementOf expressionParts collectiveParts statementParts roleOf roles fieldParts
+parts-known =
+    none also (λ a b c. refl) also (λ a b c. refl) also (λ a b c. refl) also (λ a b c. refl) also (λ a b c. refl)
+    also (λ a b c. refl) also (λ a b c. refl) also (λ a b c. refl) also (λ a b c. refl) also (λ a b c. refl)
+    also (λ a b c. refl) also (λ a b c. refl) also (λ a b c. refl) also (λ a b c. refl) also (λ a b c. refl)
+    also (λ a b c. refl) also (λ a b c. refl) also (λ a b c. refl) also (λ a b c. refl) also (λ a b c. refl)
+    also (λ a b c. refl) also (λ a b c. refl) also (λ a b c. refl) also (λ a b c. refl) also (λ a b c. refl)
+    also (λ a b c. refl)
+
+parts-unknown : (k : ℕ) → 26 ≤ k → PartsAt k
+unfolding expressionParts statementParts fieldParts
+parts-unknown k h a b c =
+    simp
+    (expression-unknown k a b c h, statement-unknown k a b c h, role-unknown k 100 h, role-unknown k 10 h, role-unknown k 1 h)
+
+pub parts-law : (table : List ℕ) (n : ℕ) → partsAt table n
+    ≡ fieldParts (roleOf (nodeAt table n .kind) 100) (nodeAt table n .a)
+    ++ (fieldParts (roleOf (nodeAt table n .kind) 10) (nodeAt table n .b)
+    ++ fieldParts (roleOf (nodeAt table n .kind) 1) (nodeAt table n .c))
+unfolding partsAt expressionAt statementAt
+parts-law table n =
+    let m = nodeAt table n in
+    each-kind PartsAt parts-known parts-unknown (m .kind) (m .a) (m .b) (m .c)
+
+-- question 12: a node that is no call passes
+abbrev CallAt : ℕ → Type 0
+CallAt k =
+    (table : List ℕ) (n a b c : ℕ)
+    → calledBelow table n (statementOf (node k a b c))
+    ≡ allBelow (λ p. not (inTree table n (body table p)) || cond (eqb k 21) (ltb a p) true) (procedures table)
+
+no-call : (table : List ℕ) (n a b c : ℕ)
+    → true ≡ allBelow (λ p. not (inTree table n (body table p)) || true) (procedures table)
+no-call table n a b c = sym (all-true _ (procedures table) (λ p l. or-true (not (inTree table n (body table p)))))
+
+call-known : Each CallAt 26
+unfolding statementOf calledBelow
+call-known =
+    none also no-call also no-call also no-call also no-call also no-call also no-call also no-call also no-call
+    also no-call also no-call also no-call also no-call also no-call also no-call also no-call also no-call
+    also no-call also no-call also no-call also no-call also no-call also (λ t n a b c. refl) also no-call
+    also no-call also no-call also no-call
+
+call-unknown : (k : ℕ) → 26 ≤ k → CallAt k
+unfolding calledBelow
+call-unknown k h table n a b c =
+    let other : eqb k 21 ≡ false = ne-eqb k 21 (λ e. omega arith) in
+    simp (statement-unknown k a b c h, other) (no-call table n a b c)
+
+pub call-law : (table : List ℕ) (n : ℕ)
+    → calledBelow table n (statementAt table n) ≡ allBelow (λ p. ownCalls table p n) (procedures table)
+unfolding statementAt ownCalls callsBelow
+call-law table n =
+    let m = nodeAt table n in
+    each-kind CallAt call-known call-unknown (m .kind) table n (m .a) (m .b) (m .c)

@@ -1,0 +1,21 @@
+-- `fields::is_statement` meets its contract.
+use Rattle.rules.specs.WellFormed.{isStatement}
+use borrow.Author.Needs.{needs}
+use Rattle.table.proofs.fields.is_statement.Statement.{statement}
+use Rattle.table.proofs.fields.is_statement.Tie as tie
+
+node-at-requires : tie.Need-node-at-requires
+node-at-requires c κs = search needs
+
+cast-between : tie.Need-cast-between
+cast-between c = search needs
+
+between-requires : tie.Need-between-requires
+between-requires c κs = search needs
+
+returns : tie.Need-returns
+unfolding isStatement
+returns c = simp (c .between .ensures, c .before .before .node-at .ensures)
+
+pub is-statement-spec : {M : Type 1} → statement M
+is-statement-spec = tie.close (tie.spec node-at-requires cast-between between-requires returns)

@@ -1,0 +1,54 @@
+-- `uses::first_unmarked` meets its contract. The loop's invariant: every node passed is marked.
+use Rattle.table.specs.Marks.{bitAt}
+use Rattle.rules.proofs.ChoiceLaws.{Passed, first-none, first-at}
+use borrow.Author.Tests.{not-true, not-false}
+use borrow.Author.Count.{below-more}
+use native.Mathlib.Omega.{arith}
+use Prim.Native.Nat.{_≤_, _-_}
+use mathlib.Core.Path.{sym, _∙_}
+use Rattle.table.proofs.uses.first_unmarked.Statement.{statement}
+use Rattle.table.proofs.uses.first_unmarked.Tie as tie
+
+abbrev Inv-loop : tie.InvT-loop
+Inv-loop marks count n₀ n = (n ≤ count) × Passed (bitAt marks) n
+
+abbrev μ-loop : tie.MeasureT-loop
+μ-loop marks count n₀ n = count - n
+
+loop-holds : tie.Need-loop-holds Inv-loop μ-loop
+loop-holds c = (omega arith, λ k l. absurd (omega arith))
+
+marked-requires : tie.Need-marked-requires Inv-loop μ-loop
+marked-requires c κs = omega arith
+
+returns : tie.Need-returns Inv-loop μ-loop
+returns c =
+    sym
+    (first-at (bitAt (c .before .before .before .before .before .args .marks .now)) (c .before .before .before .before .before .args .count) (c .before .before .before .loop .n) (c .before .before .loop-test .taken) (c .before .before .before .loop .inv .1)
+    (sym (c .before .marked .ensures) ∙ not-true (c .before .marked .result) (c .if1 .taken)))
+
+add-n : tie.Need-add-n Inv-loop μ-loop
+add-n c = omega arith
+
+loop-less : tie.Need-loop-less Inv-loop μ-loop
+loop-less c = omega arith
+
+loop-again : tie.Need-loop-again Inv-loop μ-loop
+loop-again c = (omega arith, below-more _ _ (c .before .before .before .loop .inv .1) (sym (c .before .marked .ensures) ∙ not-false (c .before .marked .result) (c .if1 .left)))
+
+returns-2 : tie.Need-returns-2 Inv-loop μ-loop
+returns-2 c = sym (first-none (bitAt (c .before .before .before .args .marks .now)) (c .before .before .before .args .count) (λ k l. c .before .loop .inv .1 k (omega arith)))
+
+pub first-unmarked-spec : {M : Type 1} → statement M
+first-unmarked-spec =
+    tie.close
+    (tie.spec
+    Inv-loop
+    μ-loop
+    loop-holds
+    marked-requires
+    returns
+    add-n
+    loop-less
+    loop-again
+    returns-2)

@@ -1,0 +1,13 @@
+-- `uses::smaller` meets its contract.
+use native.Mathlib.Omega.{arith}
+use Rattle.table.proofs.uses.smaller.Statement.{statement}
+use Rattle.table.proofs.uses.smaller.Tie as tie
+
+returns : tie.Need-returns
+returns c = omega arith
+
+returns-2 : tie.Need-returns-2
+returns-2 c = omega arith
+
+pub smaller-spec : {M : Type 1} → statement M
+smaller-spec = tie.close (tie.spec returns returns-2)

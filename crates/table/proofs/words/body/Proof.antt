@@ -1,0 +1,21 @@
+-- `words::body` meets its contract.
+use Rattle.rules.specs.Table.{body, procedureWord}
+use borrow.Author.Needs.{needs}
+use Rattle.table.proofs.words.body.Statement.{statement}
+use Rattle.table.proofs.words.body.Tie as tie
+
+add-word : tie.Need-add-word
+add-word c = search needs
+
+word-requires : tie.Need-word-requires
+word-requires c κs = search needs
+
+cast-result : tie.Need-cast-result
+cast-result c = search needs
+
+returns : tie.Need-returns
+unfolding body procedureWord
+returns c = simp (c .word .ensures)
+
+pub body-spec : {M : Type 1} → statement M
+body-spec = tie.close (tie.spec add-word word-requires cast-result returns)

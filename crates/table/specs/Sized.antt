@@ -1,0 +1,43 @@
+-- Questions 2 to 5, and what they establish: the counts of word 0 and the length that follows from them.
+use mathlib.Core.List.{List}
+use mathlib.Core.Path.{_≡_}
+use Prim.Native.Nat.{ℕ, _+_, _*_, _/_, _%_, _≤_}
+use mathlib.Core.Bool.{Bool, true, false, _&&_}
+use lib.Dec.{leb, eqb}
+use Rattle.rules.specs.declared.Verdict.{Verdict}
+use Rattle.rules.specs.declared.Verdict.the-variants.{Accepted, Refused}
+use Rattle.rules.specs.Answers.{_then_}
+use Rattle.rules.specs.WellFormed.{question2, question3, question4, question5}
+use lib.ListN.{length}
+use Rattle.rules.specs.Table.{variables, procedures, nodes}
+use Rattle.table.specs.declared.Header.{Header}
+use Rattle.table.specs.Header.{headerOf}
+
+pub record Sized (table : List ℕ) (header : Header) : Type 0 where
+  pub read : header ≡ headerOf table
+  pub variables-read : header .variables ≡ variables table
+  pub procedures-read : header .procedures ≡ procedures table
+  pub nodes-read : header .nodes ≡ nodes table
+  pub variables-low : 1 ≤ variables table
+  pub variables-high : variables table ≤ 32
+  pub procedures-low : 1 ≤ procedures table
+  pub procedures-high : procedures table ≤ 16
+  pub nodes-low : 1 ≤ nodes table
+  pub nodes-high : nodes table ≤ 256
+  pub size : length table ≡ 4 * (2 + procedures table + nodes table)
+
+-- question 3, of word 0 and the counts that it packs
+abbrev pub headerTest : ℕ → Header → Bool
+headerTest first counts =
+    eqb (first / 268435456) 1
+    && ((leb 1 (counts .variables) && leb (counts .variables) 32)
+    && ((leb 1 (counts .procedures) && leb (counts .procedures) 16)
+    && ((leb 1 (counts .nodes) && leb (counts .nodes) 256) && eqb (first % 256) 0)))
+
+unfoldable pub shapeVerdict : List ℕ → Verdict
+shapeVerdict table = question2 table then question3 table then question4 table then question5 table
+
+-- whether a question failed
+abbrev pub refuses : Verdict → Bool
+refuses Accepted = false
+refuses (Refused r) = true
