@@ -1,6 +1,6 @@
 // The checker: question 1, then 2 to 12, then 13 to 17, in lent scratch.
 ghost use mathlib.Core.Path.{_≡_};
-ghost use lib.ListN.{length, replicate};
+ghost use lib.ListN.{replicate};
 ghost use Rattle.rules.specs.Acceptance.{judged, checked, checkedScratch};
 ghost use Rattle.rules.specs.Answers.{_then_};
 ghost use Rattle.rules.specs.WellFormed.{wellFormed};

@@ -111,5 +111,3 @@ judge-node-spec =
     returns-3
     same-length-4
     returns-4)
-
--- x
