@@ -1,0 +1,160 @@
+// The library for firmware and hosts in other languages, on numbers and word slices (include/finchchaise.h). Each export
+// asks for nothing of its caller: what it answers, and what every lent word then holds, are equations with the rules.
+ghost use mathlib.Core.Path.{_≡_};
+ghost use mathlib.Core.List.{_++_};
+ghost use Prim.Native.Nat.{_≤_, min};
+ghost use lib.ListN.{length, take, drop};
+ghost use Rattle.rules.specs.Acceptance.{checked, checkedScratch};
+ghost use Rattle.rules.specs.Answers.{eventNumber, eventNode, teamNumber};
+ghost use Rattle.rules.specs.Start.{started, latchesOf};
+ghost use Rattle.rules.specs.Step.{stepped};
+ghost use Rattle.ffi.specs.Numbers.{verdictNumber, stepNumbers, copiedCount, copied, StartNumbers, StepNumbers};
+use checker::check;
+use machine::team;
+use rules::Event;
+use rules::Stepped;
+use rules::TeamStatus;
+use rules::Verdict;
+
+// A step's answer in numbers. `number` 0: the step was taken.
+#[repr(C)]
+pub struct FcStep {
+    pub number: u32,
+    pub place: u32,
+    pub event: u32,
+    pub node: u32,
+    pub site: u32,
+}
+
+fn verdict_number(verdict: Verdict) -> u64
+    ensures { λ r. ⌜ r ≡ verdictNumber verdict ⌝ }
+{
+    match verdict {
+        Verdict::Accepted => 0,
+        Verdict::Refused(refusal) => refusal.number as u64 * 4294967296 + refusal.place as u64,
+    }
+}
+
+fn event_number(event: Event) -> u32
+    ensures { λ r. ⌜ r ≡ eventNumber event ⌝ }
+{
+    match event {
+        Event::Moved => 0,
+        Event::Finished => 1,
+        Event::Arrived(_) => 2,
+        Event::Completed(_) => 3,
+        Event::Waiting => 4,
+        Event::Ended => 5,
+    }
+}
+
+fn event_node(event: Event) -> u32
+    ensures { λ r. ⌜ r ≡ eventNode event ⌝ }
+{
+    match event {
+        Event::Moved => 0,
+        Event::Finished => 0,
+        Event::Arrived(node) => node,
+        Event::Completed(node) => node,
+        Event::Waiting => 0,
+        Event::Ended => 0,
+    }
+}
+
+fn team_number(team: TeamStatus) -> u32
+    ensures { λ r. ⌜ r ≡ teamNumber team ⌝ }
+{
+    match team {
+        TeamStatus::Going => 0,
+        TeamStatus::Done => 1,
+        TeamStatus::Deadlocked => 2,
+    }
+}
+
+fn step_numbers(stepped: Stepped) -> FcStep
+    ensures { λ r. ⌜ r ≡ stepNumbers stepped ⌝ }
+{
+    match stepped {
+        Stepped::Taken(answer) => {
+            let event = answer.event;
+            let team = answer.team;
+            FcStep {
+                number: 0,
+                place: 0,
+                event: event_number(event),
+                node: event_node(event),
+                site: team_number(team),
+            }
+        }
+        Stepped::Refused(refusal) => FcStep {
+            number: refusal.number,
+            place: refusal.place,
+            event: 0,
+            node: 0,
+            site: 0,
+        },
+    }
+}
+
+fn lesser(a: usize, b: usize) -> usize
+    ensures { λ r. ⌜ r ≡ min a b ⌝ }
+{
+    if a < b { a } else { b }
+}
+
+fn copy_first(words: &[u32], out: &mut [u32], n: usize)
+    requires { ⌜ (n ≤ length (now words)) × (n ≤ length (now out)) ⌝ }
+    ensures { λ _. ⌜ now (out .exit) ≡ take n (now (words .entry)) ++ drop n (now (out .entry)) ⌝ }
+{
+    let mut i = 0;
+    while i < n {
+        out[i] = words[i];
+        i += 1;
+    }
+}
+
+// The checker. 0 for accepted.
+#[no_mangle]
+pub extern "C" fn fc_check(table: &[u8], scratch: &mut [u32]) -> u64
+    ensures { λ r. ⌜ (r ≡ verdictNumber (checked (now (table .entry)) (now (scratch .entry))))
+        × (now (scratch .exit) ≡ checkedScratch (now (scratch .entry))) ⌝ }
+{
+    verdict_number(check(table, scratch))
+}
+
+// A start. 0 for taken.
+#[no_mangle]
+pub extern "C" fn fc_start(
+    table: &[u8],
+    processes: u32,
+    start: &[u32],
+    state: &mut [u32],
+    roll: &mut [u32],
+) -> u64
+    ensures { λ r. ⌜ StartNumbers
+        (started (now (table .entry)) processes (now (start .entry)) (now (state .entry)) (now (roll .entry)))
+        r (now (state .exit)) (now (roll .exit)) ⌝ }
+{
+    verdict_number(team::start(table, processes, start, state, roll))
+}
+
+// A step of one process.
+#[no_mangle]
+pub extern "C" fn fc_step(table: &[u8], state: &mut [u32], roll: &mut [u32], process: u32) -> FcStep
+    ensures { λ r. ⌜ StepNumbers (stepped (now (table .entry)) (now (state .entry)) (now (roll .entry)) process)
+        r (now (state .exit)) (now (roll .exit)) ⌝ }
+{
+    step_numbers(team::step(table, state, roll, process))
+}
+
+// The latches of one process, as many as fit. How many were copied.
+#[no_mangle]
+pub extern "C" fn fc_latches(state: &[u32], process: u32, out: &mut [u32]) -> u32
+    ensures { λ r. ⌜ (r ≡ copiedCount (latchesOf (now (state .entry)) process) (now (out .entry)))
+        × (now (out .exit) ≡ copied (latchesOf (now (state .entry)) process) (now (out .entry))) ⌝ }
+{
+    let latches = team::latches(state, process as usize);
+    let n = lesser(latches.len(), out.len());
+    copy_first(latches, out, n);
+    n as u32
+}

@@ -1,0 +1,137 @@
+-- What questions 23 and 24 say of the process whose turn it is, and of all processes once the last of them arrives.
+use mathlib.Core.Bool.{true, false, _&&_}
+use mathlib.Core.List.{List}
+use mathlib.Core.Path.{_≡_, sym, _∙_}
+use Prim.Native.Nat.{ℕ, _*_, _≤_, _<_}
+use native.Mathlib.Decide.{decLt, ℕ-discrete}
+use native.Mathlib.Omega.{arith}
+use lib.Dec.{leb}
+use lib.ListN.{length}
+use borrow.Author.Tests.{leb-true, eq-eqb}
+use Rattle.rules.specs.declared.Arrival.{Arrival}
+use Rattle.rules.specs.declared.Node.{Node}
+use Rattle.rules.specs.Arrivals.{running, waiting, statusAt, withArrival, allAtOneNode}
+use Rattle.rules.specs.Process.{processAt, environment, depth, top, needsPlace, stackPlaces}
+use Rattle.rules.specs.Step.{stackFits, recordFits, processFits, placeLacked}
+use Rattle.rules.specs.Table.{nodeAt, statementAt}
+use Rattle.rules.specs.WellFormed.{isStatement}
+use Rattle.rules.proofs.AnswerLaws.{both-left, both-right}
+use Rattle.rules.proofs.ArrivalLaws.{with-arrival-length, with-arrival-other}
+use Rattle.rules.proofs.ProcessLaws.{process-length}
+use Rattle.rules.proofs.StatusLaws.{one-node-waits}
+use Rattle.table.specs.declared.Header.{Header}
+use Rattle.machine.specs.Given.{Stacked, Topped, Turn, Meeting}
+use Rattle.machine.specs.Outcomes.{Team, Ready}
+use Rattle.machine.proofs.CollectiveLaws.{broadcast-fits}
+use Rattle.machine.proofs.QuestionLaws.{record-empty, top-fits}
+use Rattle.machine.proofs.StatementLaws.{top-to}
+
+-- one process that question 23 holds of
+module _ (table state roll : List ℕ) (q : ℕ) (fits : processFits table state roll q ≡ true) where
+  bounded : depth (processAt state q) ≤ 256
+  unfolding processFits
+  bounded = leb-true _ stackPlaces (both-left (leb (depth (processAt state q)) stackPlaces) _ (both-left _ (recordFits table (processAt state q) roll q) fits))
+
+  stack-fit : stackFits table (processAt state q) ≡ true
+  unfolding processFits
+  stack-fit = both-right (leb (depth (processAt state q)) stackPlaces) _ (both-left _ (recordFits table (processAt state q) roll q) fits)
+
+  record-fit : recordFits table (processAt state q) roll q ≡ true
+  unfolding processFits
+  record-fit = both-right (leb (depth (processAt state q)) stackPlaces && stackFits table (processAt state q)) _ fits
+
+  -- one that has not ended holds an entry
+  held : (statusAt roll q ≡ 2 → ⊥) → 1 ≤ depth (processAt state q)
+  held u =
+      elim (decLt 0 (depth (processAt state q))) [
+        | yes l ↦ l
+        | no l ↦
+            let none : depth (processAt state q) ≡ 0 = omega arith in
+            let no-fit = record-empty table (processAt state q) roll q u (eq-eqb _ 0 none) in
+            let z : _≡_ {A = ℕ} 0 1 = cc (record-fit, no-fit) in
+            absurd (omega arith)
+      ]
+
+  pub fits-stacked : (count : ℕ) → length state ≡ 329 * count → q < count → (statusAt roll q ≡ 2 → ⊥)
+      → Stacked (processAt state q)
+  fits-stacked count sized l u = record { sized = process-length state count q sized l; held = held u; bounded = bounded }
+
+  pub fits-top : (statusAt roll q ≡ 2 → ⊥) → isStatement table (top (processAt state q)) ≡ true
+  fits-top u = top-fits table (processAt state q) stack-fit (held u)
+
+-- a running process that question 23 holds of
+module _ {table : List ℕ} {header : Header} {state roll : List ℕ} {count p : ℕ} (team : Team table header state roll count)
+    (within : p < count) (fits : processFits table state roll p ≡ true) (runs : statusAt roll p ≡ running) where
+  unended : statusAt roll p ≡ 2 → ⊥
+  unended e = omega arith
+
+  pub run-stacked : Stacked (processAt state p)
+  run-stacked = fits-stacked table state roll p fits count (team .stated) within unended
+
+  pub run-statement : isStatement table (top (processAt state p)) ≡ true
+  run-statement = fits-top table state roll p fits unended
+
+  pub run-topped : {m : Node} → m ≡ nodeAt table (top (processAt state p)) → Topped table header (processAt state p) count m
+  run-topped e =
+      record {
+        given = record { read = team .read; sized = run-stacked .sized; few = team .few };
+        stacked = run-stacked;
+        here = e;
+        statement = run-statement;
+      }
+
+module _ {table : List ℕ} {header : Header} {state roll : List ℕ} {count p : ℕ} (r : Ready table header state roll count p)
+    (runs : statusAt roll p ≡ running) where
+  pub ready-stacked : Stacked (processAt state p)
+  ready-stacked = run-stacked (r .team) (r .within) (r .fits p (r .within)) runs
+
+  pub ready-statement : isStatement table (top (processAt state p)) ≡ true
+  ready-statement = run-statement (r .team) (r .within) (r .fits p (r .within)) runs
+
+  pub ready-topped : {m : Node} → m ≡ nodeAt table (top (processAt state p)) → Topped table header (processAt state p) count m
+  ready-topped e = run-topped (r .team) (r .within) (r .fits p (r .within)) runs e
+
+  -- 24: a full stack has no statement on top that needs a place
+  ready-place : needsPlace table (environment (processAt state p) p count) (statementAt table (top (processAt state p))) ≡ true
+      → depth (processAt state p) < 256
+  unfolding placeLacked
+  ready-place needs =
+      elim (decLt (depth (processAt state p)) 256) [
+        | yes l ↦ l
+        | no l ↦
+            let full : depth (processAt state p) ≡ 256 = omega (arith, ready-stacked .bounded) in
+            let lacked : true ≡ false = rw (eq-eqb _ _ runs, eq-eqb _ _ full, needs) at (r .place) in
+            let z : _≡_ {A = ℕ} 0 1 = cc in
+            absurd (omega arith)
+      ]
+
+  pub ready-turn : {m : Node} → m ≡ nodeAt table (top (processAt state p)) → m .kind < 23
+      → Turn table header (processAt state p) p count m
+  ready-turn e l = record { topped = ready-topped e; alone = l; place = ready-place }
+
+  -- where the arrival of process p is the last, every process holds an entry
+  module _ (arrival : Arrival) (together : allAtOneNode (withArrival roll p arrival) count ≡ true) where
+    others-wait : (q : ℕ) → q < count → (q ≡ p → ⊥) → statusAt roll q ≡ waiting
+    others-wait q l other =
+        sym (with-arrival-other roll p q arrival other .status) ∙ one-node-waits (withArrival roll p arrival) count q together l
+
+    pub all-stacked : (q : ℕ) → q < count → Stacked (processAt state q)
+    all-stacked q l =
+        elim (ℕ-discrete q p) [
+          | yes e ↦ rw e ready-stacked
+          | no other ↦
+              fits-stacked table state roll q (r .fits q l) count (r .team .stated) l
+              (λ e. let w : statusAt roll q ≡ 1 = others-wait q l other in omega arith)
+        ]
+
+    pub meeting-of : {m : Node} → m ≡ nodeAt table (top (processAt state p)) → 23 ≤ m .kind
+        → Meeting (withArrival roll p arrival) count m
+    meeting-of e h =
+        record {
+          rolled = with-arrival-length roll p arrival ∙ r .team .rolled;
+          some = r .team .some;
+          few = r .team .few;
+          from = h;
+          to = top-to (ready-topped e);
+          stored = λ k. broadcast-fits (ready-topped e) k .0;
+        }

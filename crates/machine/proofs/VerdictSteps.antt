@@ -1,0 +1,171 @@
+-- From the questions that the code has put to the answer of a start or a step.
+use mathlib.Core.Bool.{Bool, true, false, cond, _&&_}
+use mathlib.Core.List.{List}
+use mathlib.Core.Path.{_≡_, refl, _∙_, ap}
+use Prim.Native.Nat.{ℕ, _*_}
+use native.Mathlib.Omega.{arith}
+use lib.Dec.{leb, ltb, eqb}
+use lib.ListN.{length}
+use borrow.Author.Tests.{leb-true, ltb-true, eqb-true}
+use Rattle.rules.specs.declared.Refusal.{Refusal}
+use Rattle.rules.specs.declared.Stepped.the-variants.{Refused}
+use Rattle.rules.specs.declared.Verdict.{Verdict}
+use Rattle.rules.specs.declared.Verdict.the-variants.{Accepted, Refused as Failed}
+use Rattle.rules.specs.Answers.{_then_, askEach}
+use Rattle.rules.specs.Start.{question18, question19, question20, question21, startSize, startVerdict, startState, startRoll, started, startedBy}
+use Rattle.rules.specs.Step.{processesIn, question22, question23, question24, processFits, placeLacked, stepVerdict, stepTaken, steppedBy, stepped}
+use Rattle.rules.specs.WellFormed.{wellFormed}
+use Rattle.rules.proofs.AnswerLaws.{both-left, both-right, then-first, then-rest, ask-holds, each-passed}
+use Rattle.table.specs.declared.Header.{Header}
+use Rattle.machine.specs.Given.{Read}
+use Rattle.machine.specs.Layout.{Startable, Starts}
+use Rattle.machine.specs.Outcomes.{Team, Ready, Gives}
+
+then-assoc : (a b c : Verdict) → (a then (b then c)) ≡ ((a then b) then c)
+then-assoc Accepted b c = refl
+then-assoc (Failed r) b c = refl
+
+-- a question that refuses decides, and one that holds leaves the answer to the next
+after-refusal : {a : Verdict} (b : Verdict) {r : Refusal} → a ≡ Failed r → (a then b) ≡ Failed r
+after-refusal b e = rw e
+
+after-accepted : {a : Verdict} (b : Verdict) → a ≡ Accepted → (a then b) ≡ b
+after-accepted b e = rw e
+
+holds-not : (holds : Bool) (r : Refusal) → cond holds (Failed r) Accepted ≡ Accepted → holds ≡ false
+holds-not true r e = let z : _≡_ {A = ℕ} 0 1 = cc in absurd (omega arith)
+holds-not false r e = refl
+
+holds-so : (holds : Bool) (r : Refusal) → cond holds Accepted (Failed r) ≡ Accepted → holds ≡ true
+holds-so true r e = refl
+holds-so false r e = let z : _≡_ {A = ℕ} 0 1 = cc in absurd (omega arith)
+
+abbrev pub sizes : List ℕ → List ℕ → Verdict
+sizes state roll = question21 (processesIn roll) roll then question20 (processesIn roll) state
+
+abbrev pub process : List ℕ → List ℕ → List ℕ → ℕ → ℕ → Verdict
+process table state roll count p =
+    question22 count p then question23 table state roll count then question24 table state roll count p
+
+module _ (table state roll : List ℕ) (p : ℕ) where
+  in-parts : stepVerdict table state roll p
+      ≡ (wellFormed table then (sizes state roll then process table state roll (processesIn roll) p))
+  unfolding stepVerdict
+  in-parts =
+      ap (λ v. wellFormed table then v)
+      (then-assoc (question21 (processesIn roll) roll) (question20 (processesIn roll) state)
+      (process table state roll (processesIn roll) p))
+
+  denied : {r : Refusal} → stepVerdict table state roll p ≡ Failed r → Gives (stepped table state roll p) (Refused r) state roll
+  unfolding stepped steppedBy
+  denied e = rw e (record { answered = refl; left = refl; written = refl })
+
+  pub denied-form : {r : Refusal} → wellFormed table ≡ Failed r → Gives (stepped table state roll p) (Refused r) state roll
+  denied-form e = denied (in-parts ∙ after-refusal _ e)
+
+  module _ (formed : wellFormed table ≡ Accepted) where
+    pub denied-sizes : {r : Refusal} → sizes state roll ≡ Failed r → Gives (stepped table state roll p) (Refused r) state roll
+    denied-sizes e = denied (in-parts ∙ after-accepted _ formed ∙ after-refusal _ e)
+
+    module _ (sized : sizes state roll ≡ Accepted) where
+      left-over : stepVerdict table state roll p ≡ process table state roll (processesIn roll) p
+      left-over = in-parts ∙ after-accepted _ formed ∙ after-accepted _ sized
+
+      pub denied-process : {r : Refusal} → process table state roll (processesIn roll) p ≡ Failed r
+          → Gives (stepped table state roll p) (Refused r) state roll
+      denied-process e = denied (left-over ∙ e)
+
+      pub taken-step : process table state roll (processesIn roll) p ≡ Accepted
+          → stepped table state roll p ≡ stepTaken table state roll (processesIn roll) p
+      unfolding stepped steppedBy
+      taken-step e = rw (left-over ∙ e)
+
+      question-21 : (eqb (length roll) (4 * processesIn roll) && leb 1 (processesIn roll) && leb (processesIn roll) 16) ≡ true
+      question-21 = ask-holds 21 _ (then-first (question21 (processesIn roll) roll) (question20 (processesIn roll) state) sized)
+
+      pub team-of : {header : Header} → Read table header → Team table header state roll (processesIn roll)
+      team-of r =
+          let n = processesIn roll in
+          let front = both-left (eqb (length roll) (4 * n) && leb 1 n) (leb n 16) question-21 in
+          record {
+            read = r;
+            some = leb-true 1 n (both-right (eqb (length roll) (4 * n)) (leb 1 n) front);
+            few = leb-true n 16 (both-right (eqb (length roll) (4 * n) && leb 1 n) (leb n 16) question-21);
+            stated = eqb-true (length state) (329 * n)
+                (ask-holds 20 _ (then-rest (question21 n roll) (question20 n state) sized));
+            rolled = eqb-true (length roll) (4 * n) (both-left (eqb (length roll) (4 * n)) (leb 1 n) front);
+          }
+
+-- questions 22 to 24 hold
+module _ {table : List ℕ} {header : Header} {state roll : List ℕ} {count : ℕ} (p : ℕ) (team : Team table header state roll count)
+    (holds : process table state roll count p ≡ Accepted) where
+  within : ltb p count ≡ true
+  within = holds-so (ltb p count) (record { number = 22; place = p }) (then-first (question22 count p) _ holds)
+
+  later : (question23 table state roll count then question24 table state roll count p) ≡ Accepted
+  later = then-rest (question22 count p) _ holds
+
+  pub ready-of : Ready table header state roll count p
+  ready-of =
+      record {
+        team = team;
+        within = ltb-true p count within;
+        fits = λ q l.
+            each-passed 23 count (processFits table state roll)
+            (then-first (askEach 23 count (processFits table state roll)) _
+            (then-first (question23 table state roll count) _ later))
+            q l;
+        place = holds-not (placeLacked table state roll count p) (record { number = 24; place = p })
+            (then-rest (question23 table state roll count) (question24 table state roll count p) later);
+      }
+
+module _ (table : List ℕ) (count : ℕ) (words state roll : List ℕ) where
+  abbrev pub asked : Verdict
+  asked = question18 count then question19 table count words then question20 count state then question21 count roll
+
+  refused-start : {r : Refusal} → startVerdict table count words state roll ≡ Failed r
+      → Starts (started table count words state roll) (Failed r) state roll
+  unfolding started startedBy
+  refused-start e = rw e (record { answered = refl; left = refl; written = refl })
+
+  pub refused-form : {r : Refusal} → wellFormed table ≡ Failed r
+      → Starts (started table count words state roll) (Failed r) state roll
+  unfolding startVerdict
+  refused-form e = refused-start (after-refusal asked e)
+
+  module _ (formed : wellFormed table ≡ Accepted) where
+    pub refused-asked : {r : Refusal} → asked ≡ Failed r → Starts (started table count words state roll) (Failed r) state roll
+    unfolding startVerdict
+    refused-asked e = refused-start (after-accepted asked formed ∙ e)
+
+    module _ (holds : asked ≡ Accepted) where
+      after18 : (question19 table count words then question20 count state then question21 count roll) ≡ Accepted
+      after18 = then-rest (question18 count) _ holds
+
+      after19 : (question20 count state then question21 count roll) ≡ Accepted
+      after19 = then-rest (question19 table count words) _ after18
+
+      pub started-rolled : length roll ≡ 4 * count
+      started-rolled =
+          eqb-true (length roll) (4 * count)
+          (both-left (eqb (length roll) (4 * count)) (leb 1 count)
+          (both-left (eqb (length roll) (4 * count) && leb 1 count) (leb count 16)
+          (ask-holds 21 _ (then-rest (question20 count state) (question21 count roll) after19))))
+
+      pub startable : Startable table count words state
+      startable =
+          let few = ask-holds 18 _ (then-first (question18 count) _ holds) in
+          record {
+            well-formed = formed;
+            some = leb-true 1 count (both-left (leb 1 count) (leb count 16) few);
+            few = leb-true count 16 (both-right (leb 1 count) (leb count 16) few);
+            worded = eqb-true (length words) (startSize table * count)
+                (ask-holds 19 _ (then-first (question19 table count words) _ after18));
+            stated = eqb-true (length state) (329 * count) (ask-holds 20 _ (then-first (question20 count state) _ after19));
+          }
+
+      pub taken-start : {after rolled : List ℕ} → after ≡ startState table count words state → rolled ≡ startRoll count roll
+          → Starts (started table count words state roll) Accepted after rolled
+      unfolding started startedBy startVerdict
+      taken-start s l =
+          rw (after-accepted asked formed ∙ holds) (record { answered = refl; left = s; written = l })

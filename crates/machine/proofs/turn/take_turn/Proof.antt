@@ -1,0 +1,50 @@
+use Rattle.machine.proofs.OutcomeLaws.{taken-run, taken-waiting, taken-ended}
+use mathlib.Core.Path.{sym, _∙_}
+use borrow.Author.Needs.{needs}
+use Rattle.machine.proofs.turn.take_turn.Statement.{statement}
+use Rattle.machine.proofs.turn.take_turn.Tie as tie
+
+status-at-requires : tie.Need-status-at-requires
+status-at-requires c κs = search needs
+
+run-requires : tie.Need-run-requires
+run-requires c κs = search needs
+
+same-length : tie.Need-same-length
+same-length c = search needs
+
+same-length-2 : tie.Need-same-length-2
+same-length-2 c = search needs
+
+returns : tie.Need-returns
+returns c = rw (taken-run (c .before .before .before .before .before .before .before .before .before .before .before .before .before .args .table .now) (c .before .before .before .before .before .before .before .before .before .before .before .before .before .args .state .now) (c .before .before .before .before .before .before .before .before .before .before .before .before .before .args .roll .now) (c .before .before .before .before .before .before .before .before .before .before .before .before .before .args .count) (c .before .before .before .before .before .before .before .before .before .before .before .before .before .args .p) (sym (c .before .before .before .before .before .before .before .before .status-at .ensures) ∙ c .before .before .before .before .before .before .before .if1 .taken)) (c .before .before .before .before .run .ensures)
+
+team-status-requires : tie.Need-team-status-requires
+team-status-requires c κs = search needs
+
+same-length-3 : tie.Need-same-length-3
+same-length-3 c = search needs
+
+returns-2 : tie.Need-returns-2
+returns-2 c = taken-waiting _ _ _ _ _ (sym (c .before .before .before .before .status-at .ensures) ∙ c .if2 .taken) (c .before .team-status .ensures)
+
+same-length-4 : tie.Need-same-length-4
+same-length-4 c = search needs
+
+returns-3 : tie.Need-returns-3
+returns-3 c = taken-ended _ _ _ _ _ (λ e. c .before .before .before .if1 .left (c .before .before .before .before .status-at .ensures ∙ e)) (λ e. c .if2 .left (c .before .before .before .before .status-at .ensures ∙ e)) (c .before .team-status .ensures)
+
+pub take-turn-spec : {M : Type 1} → statement M
+take-turn-spec =
+    tie.close
+    (tie.spec
+    status-at-requires
+    run-requires
+    same-length
+    same-length-2
+    returns
+    team-status-requires
+    same-length-3
+    returns-2
+    same-length-4
+    returns-3)

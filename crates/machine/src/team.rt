@@ -1,0 +1,120 @@
+// A team (the paper's site) on plain words: state, 329 words a process; roll, four words a process. "A refusal leaves state,
+// roll and any lent output unchanged."
+ghost use mathlib.Core.Path.{_≡_};
+ghost use Prim.Native.Nat.{_*_, _/_};
+ghost use Rattle.rules.specs.declared.Verdict.the-variants.{Accepted};
+ghost use Rattle.rules.specs.Answers.{_then_};
+ghost use Rattle.rules.specs.Start.{question20, question21, started, latchesOf};
+ghost use Rattle.rules.specs.Step.{processesIn, stepped};
+ghost use Rattle.rules.specs.WellFormed.{wellFormed};
+ghost use Rattle.machine.specs.Layout.{Starts};
+ghost use Rattle.machine.specs.Outcomes.{Gives};
+use crate::questions::process_asked;
+use crate::questions::sizes_asked;
+use crate::start::start_asked;
+use crate::start::start_roll;
+use crate::start::start_state;
+use crate::turn::take_turn;
+use rules::Stepped;
+use rules::Verdict;
+use table::well_formed;
+use table::words::header;
+
+fn start_formed(
+    table: &[u8],
+    processes: u32,
+    words: &[u32],
+    state: &mut [u32],
+    roll: &mut [u32],
+) -> Verdict
+    requires { ⌜ wellFormed (now table) ≡ Accepted ⌝ }
+    ensures { λ r. ⌜ Starts
+        (started (now (table .entry)) processes (now (words .entry)) (now (state .entry)) (now (roll .entry)))
+        r (now (state .exit)) (now (roll .exit)) ⌝ }
+{
+    let asked = start_asked(table, processes, words, state, roll);
+    match asked {
+        Verdict::Refused(refusal) => Verdict::Refused(refusal),
+        Verdict::Accepted => {
+            start_state(table, processes, words, state);
+            start_roll(roll, processes as usize);
+            Verdict::Accepted
+        }
+    }
+}
+
+// Questions 2 to 12 and 18 to 21, then the words and the records of every process.
+pub fn start(
+    table: &[u8],
+    processes: u32,
+    words: &[u32],
+    state: &mut [u32],
+    roll: &mut [u32],
+) -> Verdict
+    ensures { λ r. ⌜ Starts
+        (started (now (table .entry)) processes (now (words .entry)) (now (state .entry)) (now (roll .entry)))
+        r (now (state .exit)) (now (roll .exit)) ⌝ }
+{
+    let mut marks = [0u32; 8];
+    let formed = well_formed(table, &mut marks);
+    match formed {
+        Verdict::Refused(refusal) => Verdict::Refused(refusal),
+        Verdict::Accepted => start_formed(table, processes, words, state, roll),
+    }
+}
+
+fn step_sized(table: &[u8], state: &mut [u32], roll: &mut [u32], process: u32) -> Stepped
+    requires { ⌜ wellFormed (now table) ≡ Accepted ⌝ }
+    requires { ⌜ (question21 (processesIn (now roll)) (now roll) then question20 (processesIn (now roll)) (now state))
+        ≡ Accepted ⌝ }
+    ensures { λ r. ⌜ Gives (stepped (now (table .entry)) (now (state .entry)) (now (roll .entry)) process)
+        r (now (state .exit)) (now (roll .exit)) ⌝ }
+{
+    let count = (roll.len() / 4) as u32;
+    let head = header(table);
+    let asked = process_asked(table, head, state, roll, count, process);
+    match asked {
+        Verdict::Refused(refusal) => Stepped::Refused(refusal),
+        Verdict::Accepted => take_turn(table, head, state, roll, count, process as usize),
+    }
+}
+
+fn step_formed(table: &[u8], state: &mut [u32], roll: &mut [u32], process: u32) -> Stepped
+    requires { ⌜ wellFormed (now table) ≡ Accepted ⌝ }
+    ensures { λ r. ⌜ Gives (stepped (now (table .entry)) (now (state .entry)) (now (roll .entry)) process)
+        r (now (state .exit)) (now (roll .exit)) ⌝ }
+{
+    let asked = sizes_asked(state, roll);
+    match asked {
+        Verdict::Refused(refusal) => Stepped::Refused(refusal),
+        Verdict::Accepted => step_sized(table, state, roll, process),
+    }
+}
+
+// Questions 2 to 12, 21, 20 and 22 to 24, then one step of a process.
+pub fn step(table: &[u8], state: &mut [u32], roll: &mut [u32], process: u32) -> Stepped
+    ensures { λ r. ⌜ Gives (stepped (now (table .entry)) (now (state .entry)) (now (roll .entry)) process)
+        r (now (state .exit)) (now (roll .exit)) ⌝ }
+{
+    let mut marks = [0u32; 8];
+    let formed = well_formed(table, &mut marks);
+    match formed {
+        Verdict::Refused(refusal) => Stepped::Refused(refusal),
+        Verdict::Accepted => step_formed(table, state, roll, process),
+    }
+}
+
+// A process's latches as the part of the lent state that holds them; empty where the process is missing.
+pub fn latches(state: &[u32], process: usize) -> &[u32]
+    ensures { λ r. ⌜ now r ≡ latchesOf (now (state .entry)) process ⌝ }
+{
+    if state.len() % 329 != 0 {
+        return &state[0..0];
+    }
+    if process >= state.len() / 329 {
+        return &state[0..0];
+    }
+    let from = 329 * process + 60;
+    let to = from + 12;
+    &state[from..to]
+}

@@ -1,0 +1,123 @@
+-- `run_team::run_lent` is safe: the lent parts lie within the buffers.
+use native.Mathlib.Omega.{arith}
+use lib.ListN.{length-take}
+use borrow.Author.Needs.{needs}
+use Rattle.run_team.proofs.run_lent.Statement.{statement}
+use Rattle.run_team.proofs.run_lent.Tie as tie
+
+lesser-requires : tie.Need-lesser-requires
+lesser-requires c κs = search needs
+
+start-words-requires : tie.Need-start-words-requires
+start-words-requires c κs = search needs
+
+lesser-requires-2 : tie.Need-lesser-requires-2
+lesser-requires-2 c κs = search needs
+
+mul-state-end : tie.Need-mul-state-end
+mul-state-end c = search needs
+
+mul-turns-at : tie.Need-mul-turns-at
+mul-turns-at c = search needs
+
+slice-relend-prefix-read-words : tie.Need-slice-relend-prefix-read-words
+slice-relend-prefix-read-words c = search needs
+
+slice-aggregate-read-words : tie.Need-slice-aggregate-read-words
+slice-aggregate-read-words c = simp length-take (omega arith)
+
+read-words-requires : tie.Need-read-words-requires
+read-words-requires c κs = simp length-take (omega arith)
+
+slice-reshare-prefix-start-on : tie.Need-slice-reshare-prefix-start-on
+slice-reshare-prefix-start-on c = search needs
+
+slice-aggregate-start-on : tie.Need-slice-aggregate-start-on
+slice-aggregate-start-on c = simp length-take (omega arith)
+
+slice-relend-prefix-start-on : tie.Need-slice-relend-prefix-start-on
+slice-relend-prefix-start-on c = search needs
+
+slice-aggregate-start-on-2 : tie.Need-slice-aggregate-start-on-2
+slice-aggregate-start-on-2 c = simp length-take (omega arith)
+
+start-on-requires : tie.Need-start-on-requires
+start-on-requires c κs = search needs
+
+enum-told : tie.Need-enum-told
+enum-told c = search needs
+
+slice-relend-prefix-take-turns : tie.Need-slice-relend-prefix-take-turns
+slice-relend-prefix-take-turns c = search needs
+
+slice-aggregate-take-turns : tie.Need-slice-aggregate-take-turns
+slice-aggregate-take-turns c = simp length-take (omega arith)
+
+sub-take-turns : tie.Need-sub-take-turns
+sub-take-turns c = search needs
+
+part-take-turns-start : tie.Need-part-take-turns-start
+part-take-turns-start c = search needs
+
+part-take-turns-end : tie.Need-part-take-turns-end
+part-take-turns-end c = search needs
+
+take-turns-requires : tie.Need-take-turns-requires
+take-turns-requires c κs = search needs
+
+enum-known-answer : tie.Need-enum-known-answer
+enum-known-answer c = search needs
+
+refusal-requires : tie.Need-refusal-requires
+refusal-requires c κs = search needs
+
+same-length : tie.Need-same-length
+same-length c = search needs
+
+same-length-2 : tie.Need-same-length-2
+same-length-2 c = search needs
+
+returns : tie.Need-returns
+returns c = search needs
+
+same-length-3 : tie.Need-same-length-3
+same-length-3 c = search needs
+
+same-length-4 : tie.Need-same-length-4
+same-length-4 c = search needs
+
+returns-2 : tie.Need-returns-2
+returns-2 c = search needs
+
+pub run-lent-spec : {M : Type 1} → statement M
+run-lent-spec =
+    tie.close
+    (tie.spec
+    lesser-requires
+    start-words-requires
+    lesser-requires-2
+    mul-state-end
+    mul-turns-at
+    slice-relend-prefix-read-words
+    slice-aggregate-read-words
+    read-words-requires
+    slice-reshare-prefix-start-on
+    slice-aggregate-start-on
+    slice-relend-prefix-start-on
+    slice-aggregate-start-on-2
+    start-on-requires
+    enum-told
+    slice-relend-prefix-take-turns
+    slice-aggregate-take-turns
+    sub-take-turns
+    part-take-turns-start
+    part-take-turns-end
+    take-turns-requires
+    enum-known-answer
+    refusal-requires
+    same-length
+    same-length-2
+    returns
+    same-length-3
+    same-length-4
+    returns-2)

@@ -1,0 +1,168 @@
+// Reads a word L, L table bytes, a word for the number of banks, the start words and a byte a turn on standard input, and
+// prints what each turn did.
+ghost use mathlib.Core.Path.{_≡_};
+ghost use Prim.Native.Nat.{_*_, _≤_};
+ghost use lib.ListN.{length};
+use libc::STDIN_FILENO;
+use rules::Arrival;
+use rules::Refusal;
+use rules::Status;
+use rules::Stepped;
+use rules::Verdict;
+use table::words::header;
+use table::words::word;
+
+// A byte more than question 25 allows, so that longer input shows.
+const INPUT_BYTES: usize = 32769;
+
+const MOST_PROCESSES: usize = 16;
+
+// 329 words a process.
+const STATE_WORDS: usize = 5264;
+
+// 16 processes with 32 variables and 12 doors.
+const MOST_START_WORDS: usize = 704;
+
+fn lesser(a: usize, b: usize) -> usize
+    ensures { λ r. ⌜ r ≤ a ⌝ }
+    ensures { λ r. ⌜ r ≤ b ⌝ }
+{
+    if a < b { a } else { b }
+}
+
+// The start words of so many processes, where the table and their number allow a start. Where they do not, the start is
+// refused before its words are counted.
+fn start_words(table: &[u8], processes: usize) -> usize
+    requires { ⌜ processes ≤ 16 ⌝ }
+    ensures { λ r. ⌜ r ≤ 704 ⌝ }
+{
+    if table.len() < 4 {
+        return 0;
+    }
+    let each = header(table).variables % 64 + 12;
+    lesser(each * processes, MOST_START_WORDS)
+}
+
+// The first words of some bytes.
+fn read_words(bytes: &[u8], words: &mut [u32])
+    requires { ⌜ 4 * length (now words) ≤ length (now bytes) ⌝ }
+{
+    let count = words.len();
+    for i in 0..count {
+        words[i] = word(bytes, i);
+    }
+}
+
+// Answers whether the run goes on.
+fn report_step(bank: u32, stepped: Stepped) -> bool {
+    match stepped {
+        Stepped::Taken(answer) => {
+            report::turn(bank, answer);
+            true
+        }
+        Stepped::Refused(refusal) => {
+            report::refusal(refusal);
+            false
+        }
+    }
+}
+
+fn bank_of(turn: u8) -> u32 {
+    turn as u32
+}
+
+fn take_turns(
+    table: &[u8],
+    state: &mut [u32],
+    roll: [Arrival; 16],
+    processes: usize,
+    turns: &[u8],
+) {
+    report::header();
+    let mut records = roll;
+    let count = turns.len();
+    for i in 0..count {
+        let bank = bank_of(turns[i]);
+        let after = team::step_on(table, state, records, processes, bank);
+        records = after.roll;
+        let stepped = after.answer;
+        if !report_step(bank, stepped) {
+            return;
+        }
+    }
+}
+
+// `given` holds the start words and the turns. Start words cut short are too few, which the start refuses with 19.
+fn run_lent(table: &[u8], processes: u32, given: &[u8], words: &mut [u32], state: &mut [u32])
+    requires { ⌜ (length (now words) ≡ 704) × (length (now state) ≡ 5264) ⌝ }
+{
+    let count = lesser(processes as usize, MOST_PROCESSES);
+    let taken = lesser(start_words(table, count), given.len() / 4);
+    let state_end = 329 * count;
+    let turns_at = 4 * taken;
+    let running = Arrival {
+        status: Status::Running,
+        node: 0,
+        value: 0,
+        source: 0,
+    };
+    read_words(given, &mut words[..taken]);
+    let after = team::start_on(
+        table,
+        processes,
+        &words[..taken],
+        &mut state[..state_end],
+        [running; 16],
+        count,
+    );
+    let answer = after.answer;
+    let roll = after.roll;
+    match answer {
+        Verdict::Accepted => take_turns(
+            table,
+            &mut state[..state_end],
+            roll,
+            count,
+            &given[turns_at..],
+        ),
+        Verdict::Refused(refusal) => report::refusal(refusal),
+    }
+}
+
+fn run_table(table: &[u8], processes: u32, given: &[u8]) {
+    let mut words = [0u32; MOST_START_WORDS];
+    let mut state = [0u32; STATE_WORDS];
+    run_lent(table, processes, given, &mut words, &mut state);
+}
+
+fn refuse_input() {
+    report::refusal(Refusal {
+        number: 25,
+        place: 0,
+    });
+}
+
+// 25: "is its input at most 32,768 bytes, with L, the L table bytes and the number of banks all there?"
+fn run(input: &[u8]) {
+    let length = input.len();
+    if length >= INPUT_BYTES {
+        return refuse_input();
+    }
+    if length < 8 {
+        return refuse_input();
+    }
+    let size = word(input, 0) as usize;
+    if length - 8 < size {
+        return refuse_input();
+    }
+    let table_end = 4 + size;
+    let given_at = 8 + size;
+    let processes = word(&input[table_end..given_at], 0);
+    run_table(&input[4..table_end], processes, &input[given_at..]);
+}
+
+fn main() {
+    let mut input = [0u8; INPUT_BYTES];
+    let n = io::read_full(STDIN_FILENO, &mut input);
+    run(&input[..n]);
+}

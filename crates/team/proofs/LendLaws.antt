@@ -1,0 +1,132 @@
+-- Laws of the words that a call lends the core: how they are loaded, and what is saved of them.
+use mathlib.Core.List.{List, _++_}
+use mathlib.Core.Path.{_≡_, refl, ap, sym, _∙_, subst}
+use Prim.Native.Nat.{ℕ, zero, suc, _+_, _-_, _*_, _≤_, _<_}
+use native.Mathlib.Decide.{decLt}
+use native.Mathlib.Numerals.{add-one}
+use native.Mathlib.Omega.{arith}
+use borrow.Table.Elements.{same-len}
+use borrow.Author.Tests.{lt-ltb, le-ltb}
+use lib.ListN.{length, getD, set, take, drop, replicate, length-set, drop-of-length-le}
+use lib.Seq.{set-at, take-at, drop-at, take-suc, take-all, append-snoc, length-take-le, getD-set-same, getD-set-other, getD-take, ext-getD}
+use Rattle.rules.specs.declared.Arrival.{Arrival}
+use Rattle.rules.specs.Arrivals.{runningRecord, withArrival}
+use Rattle.machine.specs.Given.{arrivalAt}
+use Rattle.team.specs.Roll.{atMost, rollWords, lentRecords, loaded, saved}
+use Rattle.team.proofs.RollLaws.{words-length, words-append, words-set, words-at}
+
+-- what is lent is there, and is at most 17 records
+pub lent-within : (n : ℕ) → lentRecords n ≤ n
+lent-within n = elim (decLt n 17) [ yes l ↦ simp (lt-ltb n 17 l) (omega arith) | no m ↦ simp (le-ltb n 17 (omega arith)) (omega arith) ]
+
+pub lent-few : (n : ℕ) → lentRecords n ≤ 17
+lent-few n = elim (decLt n 17) [ yes l ↦ simp (lt-ltb n 17 l) (omega arith) | no m ↦ simp (le-ltb n 17 (omega arith)) (omega arith) ]
+
+-- as much of a list of the limit's length
+pub take-most : (n limit : ℕ) (xs : List Arrival) → length xs ≡ limit → take (atMost n limit) xs ≡ take n xs
+take-most n limit xs e =
+    elim (decLt n limit) [
+      | yes l ↦ simp (lt-ltb n limit l)
+      | no m ↦ simp (le-ltb n limit (omega arith), take-all limit xs (omega (arith, e)), take-all n xs (omega (arith, e)))
+    ]
+
+pub drop-most : (n limit : ℕ) (xs : List Arrival) → length xs ≡ limit → drop (atMost n limit) xs ≡ drop n xs
+drop-most n limit xs e =
+    elim (decLt n limit) [
+      | yes l ↦ simp (lt-ltb n limit l)
+      | no m ↦
+          let short : length xs ≤ limit = omega (arith, e) in
+          let shorter : length xs ≤ n = omega (arith, e) in
+          simp (le-ltb n limit (omega arith), drop-of-length-le xs short, drop-of-length-le xs shorter)
+    ]
+
+pub most-within : (n limit : ℕ) → atMost n limit ≤ limit
+most-within n limit = elim (decLt n limit) [ yes l ↦ simp (lt-ltb n limit l) (omega arith) | no m ↦ simp (le-ltb n limit (omega arith)) (omega arith) ]
+
+-- a list whose first elements were replaced: those, and the others
+module _ (n limit : ℕ) (xs ys : List Arrival) (sized : length xs ≡ limit) (same : length ys ≡ length (take (atMost n limit) xs)) where
+  replaced-length : length (ys ++ drop (atMost n limit) xs) ≡ limit
+  replaced-length = same-len (atMost n limit) xs ys same ∙ sized
+
+  at-seam : length ys ≡ atMost n limit
+  at-seam = same ∙ length-take-le (atMost n limit) xs (omega (arith, sized, most-within n limit))
+
+  pub replaced-take : take n (ys ++ drop (atMost n limit) xs) ≡ ys
+  replaced-take = sym (take-most n limit (ys ++ drop (atMost n limit) xs) replaced-length) ∙ take-at ys (drop (atMost n limit) xs) (atMost n limit) at-seam
+
+  pub replaced-drop : drop n (ys ++ drop (atMost n limit) xs) ≡ drop n xs
+  replaced-drop =
+      sym (drop-most n limit (ys ++ drop (atMost n limit) xs) replaced-length) ∙ drop-at ys (drop (atMost n limit) xs) (atMost n limit) at-seam ∙ drop-most n limit xs sized
+
+-- nothing is loaded yet; one record more
+pub loaded-none : (roll : List Arrival) → loaded roll 0 ≡ replicate 68 0
+unfolding loaded rollWords
+loaded-none roll = refl
+
+pub loaded-next : (roll : List Arrival) (p : ℕ) → p < length roll → p < 17 → loaded roll (p + 1) ≡ withArrival (loaded roll p) p (getD roll p runningRecord)
+unfolding loaded
+loaded-next roll p l few =
+    let r : Arrival = getD roll p runningRecord in
+    let left : 17 - p ≡ suc (17 - (p + 1)) = omega arith in
+    let at : length (take p roll) ≡ p = length-take-le p roll (omega arith) in
+    sym (words-set (take p roll ++ replicate (17 - p) runningRecord) p r
+    ∙ ap (λ (n : ℕ). rollWords (set (take p roll ++ replicate n runningRecord) p r)) left
+    ∙ ap rollWords (set-at (take p roll) runningRecord (replicate (17 - (p + 1)) runningRecord) r p at)
+    ∙ ap rollWords (sym (append-snoc (take p roll) r (replicate (17 - (p + 1)) runningRecord)))
+    ∙ ap (λ (t : List Arrival). rollWords (t ++ replicate (17 - (p + 1)) runningRecord)) (sym (take-suc roll p runningRecord l) ∙ ap (λ (n : ℕ). take n roll) (sym (add-one p))))
+
+-- the words of the records that are loaded stand first, and each can be read
+pub loaded-words : (roll : List Arrival) (n : ℕ) → n ≤ length roll → take (4 * n) (loaded roll n) ≡ rollWords (take n roll)
+unfolding loaded
+loaded-words roll n l =
+    ap (take (4 * n)) (words-append (take n roll) (replicate (17 - n) runningRecord))
+    ∙ take-at (rollWords (take n roll)) (rollWords (replicate (17 - n) runningRecord)) (4 * n) (words-length (take n roll) ∙ ap (λ (k : ℕ). 4 * k) (length-take-le n roll l))
+
+-- nothing is saved yet; one record more
+pub saved-none : (words : List ℕ) (roll : List Arrival) → saved words 0 roll ≡ roll
+unfolding saved
+saved-none words roll = refl
+
+pub saved-next : (words : List ℕ) (p : ℕ) (roll : List Arrival) → saved words (p + 1) roll ≡ set (saved words p roll) p (arrivalAt words p)
+unfolding saved
+saved-next words p roll = rw (add-one p) refl
+
+pub saved-length : (words : List ℕ) (p : ℕ) (roll : List Arrival) → length (saved words p roll) ≡ length roll
+unfolding saved
+saved-length words zero roll = refl
+saved-length words (suc p) roll = length-set (saved words p roll) p (arrivalAt words p) ∙ saved-length words p roll
+
+-- a record that is saved, and one that is not
+saved-at : (words : List ℕ) (n : ℕ) (roll : List Arrival) (p : ℕ) → p < n → p < length roll → getD (saved words n roll) p runningRecord ≡ arrivalAt words p
+unfolding saved
+saved-at words zero roll p l m = absurd (omega arith)
+saved-at words (suc n) roll p l m =
+    elim (decLt p n) [
+      | yes b ↦ getD-set-other (saved words n roll) n p (arrivalAt words n) runningRecord (λ e. omega arith) ∙ saved-at words n roll p b m
+      | no b ↦
+          let e : n ≡ p = omega arith in
+          subst (λ (k : ℕ). getD (set (saved words k roll) k (arrivalAt words k)) p runningRecord ≡ arrivalAt words p) (sym e)
+          (getD-set-same (saved words p roll) p (arrivalAt words p) runningRecord (omega (arith, saved-length words p roll)))
+    ]
+
+kept-at : (words : List ℕ) (n : ℕ) (roll : List Arrival) (p : ℕ) → n ≤ p → getD (saved words n roll) p runningRecord ≡ getD roll p runningRecord
+unfolding saved
+kept-at words zero roll p l = refl
+kept-at words (suc n) roll p l = getD-set-other (saved words n roll) n p (arrivalAt words n) runningRecord (λ e. omega arith) ∙ kept-at words n roll p (omega arith)
+
+-- where the words begin with those of `new`, and `new` has the records from n on, `new` is what is saved
+pub saved-words : (new roll : List Arrival) (rest : List ℕ) (n : ℕ) → length new ≡ n → n ≡ length roll → saved (rollWords new ++ rest) n roll ≡ new
+saved-words new roll rest n sized whole =
+    ext-getD runningRecord (saved (rollWords new ++ rest) n roll) new (omega (arith, saved-length (rollWords new ++ rest) n roll))
+    (λ p l. let b : p < n = omega (arith, l, saved-length (rollWords new ++ rest) n roll) in
+    saved-at (rollWords new ++ rest) n roll p b (omega arith) ∙ words-at new rest p (omega arith))
+
+-- where the words begin with the roll's own records, the roll stays
+pub saved-same : (roll : List Arrival) (rest : List ℕ) (n : ℕ) → n ≤ length roll → saved (rollWords (take n roll) ++ rest) n roll ≡ roll
+saved-same roll rest n fits =
+    let words : List ℕ = rollWords (take n roll) ++ rest in
+    ext-getD runningRecord (saved words n roll) roll (saved-length words n roll)
+    (λ p l. elim (decLt p n) [
+      | yes b ↦ saved-at words n roll p b (omega arith) ∙ words-at (take n roll) rest p (omega (arith, length-take-le n roll fits)) ∙ getD-take n roll p runningRecord b
+      | no b ↦ kept-at words n roll p (omega arith)
+    ])

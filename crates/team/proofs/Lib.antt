@@ -1,0 +1,13 @@
+-- The laws that the proofs of this crate share.
+pub mod RollLaws
+pub mod LendLaws
+pub mod Recorded
+pub mod TeamCalls
+pub mod Rows
+pub mod PlainCalls
+pub mod WordCalls
+pub mod Shared
+pub mod Prefix
+pub mod RollCalls
+pub mod AnswerRows
+pub mod CoreLaws

@@ -1,0 +1,72 @@
+/*
+ * Runs table T2 on two banks, as a host would: check, start, then turns until the site is done.
+ * It prints what the run program prints for the same turns. examples/c/run builds it and compares.
+ */
+#include "finchchaise.h"
+
+#include <stdio.h>
+
+#define PROCESSES 2
+#define VARIABLES 1
+
+/* If there are any banks then a barrier, else nothing. */
+static const uint8_t table[] = {
+    0x10, 0x42, 0x04, 0x00, /* edition 1, one variable, one procedure, four nodes */
+    0x00, 0x00, 0x00, 0x00, /* no single variable */
+    0x03, 0x80, 0x00, 0x00, /* procedure 0: body is node 3, with a global effect */
+    0x18, 0x00, 0x00, 0x00, /* node 0: number of banks */
+    0xB8, 0x00, 0x00, 0x00, /* node 1: barrier */
+    0x80, 0x00, 0x00, 0x00, /* node 2: nothing */
+    0x98, 0x00, 0x02, 0x02, /* node 3: if node 0 then node 1 else node 2 */
+};
+
+static const char *const events[] = {"moved", "finished", "arrived", "met", "waits", "ended"};
+static const char *const sites[] = {"going", "done", "crossed"};
+
+static uint32_t scratch[FC_SCRATCH_WORDS];
+static uint32_t start_words[PROCESSES * (VARIABLES + FC_DOORS)];
+static uint32_t state[PROCESSES * FC_PROCESS_WORDS];
+static uint32_t roll[PROCESSES * FC_ROLL_WORDS];
+
+#define LENGTH(words) (sizeof(words) / sizeof((words)[0]))
+
+static int refused(uint32_t number, uint32_t place)
+{
+    printf("refused %u %u\n", (unsigned)number, (unsigned)place);
+    return 1;
+}
+
+/* Each bank in turn takes two turns. */
+static int run(void)
+{
+    printf("bank what node site\n");
+    for (uint32_t turn = 0; turn < 2 * PROCESSES; turn++) {
+        uint32_t process = turn / 2;
+        FcStep step = fc_step(table, sizeof table, state, LENGTH(state), roll, LENGTH(roll), process);
+        if (step.number != 0)
+            return refused(step.number, step.place);
+        printf("%u %s %u %s\n", (unsigned)process, events[step.event], (unsigned)step.node,
+               sites[step.site]);
+    }
+    return 0;
+}
+
+int main(void)
+{
+    uint64_t answer = fc_check(table, sizeof table, scratch, LENGTH(scratch));
+    if (answer != 0)
+        return refused(fc_number(answer), fc_place(answer));
+    printf("accepted\n");
+
+    answer = fc_start(table, sizeof table, PROCESSES, start_words, LENGTH(start_words), state,
+                      LENGTH(state), roll, LENGTH(roll));
+    if (answer != 0)
+        return refused(fc_number(answer), fc_place(answer));
+    if (run() != 0)
+        return 1;
+
+    uint32_t latches[FC_LATCHES];
+    uint32_t copied = fc_latches(state, LENGTH(state), 0, latches, LENGTH(latches));
+    printf("bank 0 has %u latches\n", (unsigned)copied);
+    return 0;
+}

@@ -1,0 +1,127 @@
+/*
+ * Finchchaise: a proved checker of site tables and a machine that runs them.
+ *
+ * Link with target/staticlib/libffi.a, which `rt staticlib ffi` writes (x86-64). The library has no
+ * memory of its own: it allocates nothing and keeps nothing between calls, so calls on different
+ * buffers may run side by side. No input is an error of the caller: whatever the bytes, words and
+ * numbers are, a call answers.
+ *
+ * What the caller owes, as in C: each pointer leads to as many bytes or words as the length beside
+ * it says (the pointer of an empty buffer is not followed), words are aligned, and a buffer that is
+ * not const overlaps no other buffer of the call. Lengths are in bytes for a table, otherwise in
+ * 32-bit words.
+ *
+ * In these comments a process is the rules paper's bank, a team its site, a step its turn, a
+ * collective its meeting and gathered words its roster. docs/FORMAT.md describes every word.
+ *
+ * Sizes in words. V is the number of variables that the table's header names:
+ *
+ *   start     (V + 12) a process: its V variables, then its 12 doors
+ *   state     329 a process: 32 variables, 16 gathered words, 12 doors, 12 latches, the depth of its
+ *             stack, 256 stack places
+ *   roll      4 a process: status (0 running, 1 waiting, 2 ended), node, value, source
+ *   scratch   256
+ */
+#ifndef FINCHCHAISE_H
+#define FINCHCHAISE_H
+
+#include <stddef.h>
+#include <stdint.h>
+
+#ifdef __cplusplus
+extern "C" {
+#endif
+
+enum {
+    FC_MOST_TABLE_BYTES = 1096,
+    FC_MOST_PROCESSES = 16,
+    FC_DOORS = 12,
+    FC_LATCHES = 12,
+    FC_PROCESS_WORDS = 329,
+    FC_ROLL_WORDS = 4,
+    FC_SCRATCH_WORDS = 256
+};
+
+/* The first word of a process's record in the roll. */
+enum { FC_RUNNING = 0, FC_WAITING = 1, FC_ENDED = 2 };
+
+/* What a step did to the process that was asked for: FcStep.event. */
+enum {
+    FC_EVENT_MOVED = 0,    /* a statement was worked on, and others are left */
+    FC_EVENT_FINISHED = 1, /* its last statement is done, the process has ended */
+    FC_EVENT_ARRIVED = 2,  /* it waits at the collective `node` */
+    FC_EVENT_MET = 3,      /* its arrival brought the collective `node` about: all go on */
+    FC_EVENT_WAITS = 4,    /* nothing: it was waiting already */
+    FC_EVENT_ENDED = 5     /* nothing: it had ended already */
+};
+
+/* How the team stands after a step: FcStep.site. */
+enum {
+    FC_SITE_GOING = 0,  /* some process runs */
+    FC_SITE_DONE = 1,   /* all have ended */
+    FC_SITE_CROSSED = 2 /* none runs, some wait, and no collective can take place */
+};
+
+/*
+ * The answer to a step. A step was taken if number is 0, and place is then 0 too. Otherwise it was
+ * refused with that number of the rules paper, at that place, and event, node and site say nothing.
+ * node is 0 for events other than arrived and met.
+ */
+typedef struct FcStep {
+    uint32_t number;
+    uint32_t place;
+    uint32_t event;
+    uint32_t node;
+    uint32_t site;
+} FcStep;
+
+/*
+ * An answer of fc_check and fc_start is 0, or for a refusal its number times 2^32 plus its place.
+ * Numbers begin with 1, so a refusal is never 0.
+ */
+static inline uint32_t fc_number(uint64_t answer) { return (uint32_t)(answer >> 32); }
+static inline uint32_t fc_place(uint64_t answer) { return (uint32_t)answer; }
+
+/*
+ * The checker: 0 if the table is accepted, else the refusal (numbers 1 to 17).
+ *
+ * scratch needs 256 words; what they hold before the call plays no part. After any answer but number
+ * 1 the first 256 are 0. Later words, and all of them after number 1, are left as they were.
+ */
+uint64_t fc_check(const uint8_t *table, size_t table_length, uint32_t *scratch,
+                  size_t scratch_length);
+
+/*
+ * Starts a team: 0 if it was started, else the refusal (numbers 2 to 12 and 18 to 21). It asks that
+ * the table is well formed, and not that the checker accepts it.
+ *
+ * processes is 1 to 16; start, state and roll have exactly the lengths given above. A taken start
+ * writes every word of state and roll, a refused one none.
+ */
+uint64_t fc_start(const uint8_t *table, size_t table_length, uint32_t processes,
+                  const uint32_t *start, size_t start_length, uint32_t *state, size_t state_length,
+                  uint32_t *roll, size_t roll_length);
+
+/*
+ * One step of one process, counted from 0. Numbers of a refusal: 2 to 12 and 20 to 24.
+ *
+ * table, state and roll are those of the start, with nothing written to them since but by fc_step.
+ * The number of processes is roll_length / 4. A refused step writes no word, and neither does one
+ * with the event waits or ended.
+ */
+FcStep fc_step(const uint8_t *table, size_t table_length, uint32_t *state, size_t state_length,
+               uint32_t *roll, size_t roll_length, uint32_t process);
+
+/*
+ * Copies a process's 12 latches into out, or as many of them as out has room for, lowest first, and
+ * answers how many words were copied. It is 0 for a process that the state lacks and for a state
+ * that is not a whole number of processes. Other words of out are left as they were.
+ */
+uint32_t fc_latches(const uint32_t *state, size_t state_length, uint32_t process, uint32_t *out,
+                    size_t out_length);
+
+#ifdef __cplusplus
+}
+#endif
+
+#endif

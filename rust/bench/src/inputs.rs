@@ -1,0 +1,91 @@
+//! Tables of an exact size, of the statements that real tables have.
+
+use finchchaise_samples::Builder;
+
+const OWN: u32 = 0;
+const SINGLE: u32 = 1;
+pub const VARIABLES: usize = 2;
+
+/// An accepted table with this many nodes and procedures. Every procedure calls the one below it.
+/// The main one repeats its body for ever if it has the nodes for that.
+pub fn table(nodes: usize, procedures: usize) -> Vec<u8> {
+    let mut table = Builder::new(VARIABLES as u32, &[SINGLE]);
+    for number in 1..=procedures {
+        let share = nodes * number / procedures - table.nodes.len();
+        let body = match number == procedures && share > 2 {
+            true => endless(&mut table, share),
+            false => filled(&mut table, share),
+        };
+        table.procedure(body, true);
+    }
+    table.bytes()
+}
+
+fn endless(table: &mut Builder, nodes: usize) -> u32 {
+    let condition = table.count();
+    let body = filled(table, nodes - 2);
+    table.repeat(condition, body)
+}
+
+/// A statement of just so many nodes.
+fn filled(table: &mut Builder, nodes: usize) -> u32 {
+    let called = table.procedures.len() as u32;
+    match nodes {
+        1 if called > 0 => table.call(called - 1),
+        1 => table.nothing(),
+        2 => exchange(table),
+        3 => latch(table),
+        4 => table.increase(OWN),
+        _ => {
+            let before = table.nodes.len();
+            let first = piece(table, nodes - 2);
+            let taken = table.nodes.len() - before;
+            let second = filled(table, nodes - 1 - taken);
+            table.sequence(first, second)
+        }
+    }
+}
+
+/// One of six statements in turn, of at most `most` nodes, which is 3 or more.
+fn piece(table: &mut Builder, most: usize) -> u32 {
+    match table.nodes.len() % 6 {
+        0 if most >= 4 => table.increase(OWN),
+        1 if most >= 6 => choose(table),
+        2 => exchange(table),
+        3 => broadcast(table),
+        4 => look_at_door(table),
+        _ => latch(table),
+    }
+}
+
+fn exchange(table: &mut Builder) -> u32 {
+    let value = table.variable(OWN);
+    table.exchange(value)
+}
+
+fn latch(table: &mut Builder) -> u32 {
+    let latch = table.constant(3);
+    let value = table.variable(SINGLE);
+    table.latch(latch, value)
+}
+
+fn look_at_door(table: &mut Builder) -> u32 {
+    let door = table.constant(11);
+    let value = table.door(door);
+    table.assign(OWN, value)
+}
+
+fn broadcast(table: &mut Builder) -> u32 {
+    let value = table.own_number();
+    let source = table.constant(5);
+    table.broadcast(SINGLE, value, source)
+}
+
+fn choose(table: &mut Builder) -> u32 {
+    let left = table.variable(SINGLE);
+    let right = table.constant(2);
+    let condition = table.less(left, right);
+    let then = table.barrier();
+    let otherwise = table.nothing();
+    table.choose(condition, then, otherwise)
+}

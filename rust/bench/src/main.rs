@@ -1,0 +1,114 @@
+//! Times the proved library beside plain Rust that does the same work, in turns, and prints the
+//! medians. Run it with `./site bench`, or here with `cargo run --release --offline`.
+
+mod inputs;
+mod native;
+#[cfg(test)]
+mod tests;
+mod work;
+
+use std::hint::black_box;
+use std::time::{Duration, Instant};
+use work::{Side, Work, LIBRARY, NATIVE};
+
+const ROUNDS: usize = 101;
+/// A round repeats short work for at least so long, as the clock is coarse.
+const ROUND: Duration = Duration::from_micros(500);
+const COMPARED: usize = 2_000;
+
+/// A piece of work on both sides' own buffers.
+struct Row {
+    library: Work,
+    native: Work,
+    repeats: usize,
+    calls_a_repeat: f64,
+    library_times: Vec<f64>,
+    native_times: Vec<f64>,
+}
+
+fn main() {
+    let mut rows: Vec<Row> = work::all().into_iter().map(Row::new).collect();
+    for round in 0..ROUNDS {
+        rows.iter_mut().for_each(|row| row.time(round));
+    }
+    println!("| work | ns | ns Rust | ratio | ns a table word |");
+    println!("|---|---|---|---|---|");
+    for row in &rows {
+        row.print();
+    }
+    println!();
+    println!("Medians of {ROUNDS} rounds, library and Rust in turns, every piece of work in each");
+    println!("round. No buffer is cleared first: a check leaves its scratch 0, steps go on from");
+    println!(
+        "where the last one left state and roll, a start writes every word. Answers and words"
+    );
+    println!("were compared first. A table word's time is that of one call, shared among the");
+    println!("table's words; a whole stocktake has a call for its start and one for each step.");
+}
+
+impl Row {
+    fn new(work: Work) -> Row {
+        let mut row = Row {
+            library: work.clone(),
+            native: work,
+            repeats: 1,
+            calls_a_repeat: 1.0,
+            library_times: Vec::new(),
+            native_times: Vec::new(),
+        };
+        row.compare();
+        while timed(&mut row.library, LIBRARY, row.repeats) < ROUND {
+            row.repeats *= 2;
+        }
+        row
+    }
+
+    /// The two sides must do the same before their times mean anything.
+    fn compare(&mut self) {
+        let mut repeats = 0;
+        while self.library.calls < COMPARED {
+            self.library.once(LIBRARY);
+            self.native.once(NATIVE);
+            repeats += 1;
+            assert!(self.library.is_taken(), "refused: {}", self.library.what);
+            assert_eq!(self.library, self.native);
+        }
+        self.calls_a_repeat = self.library.calls as f64 / repeats as f64;
+    }
+
+    /// Which side goes first changes from round to round.
+    fn time(&mut self, round: usize) {
+        for turn in 0..2 {
+            let (work, side, times) = match (round + turn) % 2 {
+                0 => (&mut self.library, LIBRARY, &mut self.library_times),
+                _ => (&mut self.native, NATIVE, &mut self.native_times),
+            };
+            let time = timed(work, side, self.repeats);
+            times.push(time.as_nanos() as f64 / self.repeats as f64);
+        }
+    }
+
+    fn print(&self) {
+        let (library, native) = (median(&self.library_times), median(&self.native_times));
+        let a_word = library / self.calls_a_repeat / self.library.table_words() as f64;
+        println!(
+            "| {} | {library:.0} | {native:.0} | {:.2} | {a_word:.2} |",
+            self.library.what,
+            library / native,
+        );
+    }
+}
+
+fn timed(work: &mut Work, side: Side, repeats: usize) -> Duration {
+    let begin = Instant::now();
+    for _ in 0..repeats {
+        black_box(&mut *work).once(side);
+    }
+    begin.elapsed()
+}
+
+fn median(times: &[f64]) -> f64 {
+    let mut sorted = times.to_vec();
+    sorted.sort_by(f64::total_cmp);
+    sorted[sorted.len() / 2]
+}

@@ -1,0 +1,294 @@
+//! Start and step, questions 18 to 24, on the lent words in place.
+
+use super::reader::{read, Facts, STATEMENT};
+use super::refusal::refused;
+use super::table::{Node, Table};
+use finchchaise::{Answer, Event, Refusal, TeamStatus};
+use finchchaise::{DOORS, LATCHES, MOST_PROCESSES, PROCESS_WORDS, ROLL_WORDS};
+
+const GATHERED: usize = 32;
+const DOORS_BEGIN: usize = 48;
+const LATCHES_BEGIN: usize = 60;
+const DEPTH: usize = 72;
+const STACK: usize = 73;
+const STACK_PLACES: usize = PROCESS_WORDS - STACK;
+
+const RUNNING: u32 = 0;
+const WAITING: u32 = 1;
+const ENDED: u32 = 2;
+
+type Words = [u32; PROCESS_WORDS];
+/// Status, node, value, source.
+type Record = [u32; ROLL_WORDS];
+
+pub fn start(
+    table: &[u8],
+    processes: u32,
+    start_words: &[u32],
+    state: &mut [u32],
+    roll: &mut [u32],
+) -> Result<(), Refusal> {
+    let (table, _) = read(table)?;
+    let count = processes as usize;
+    if !(1..=MOST_PROCESSES).contains(&count) {
+        return refused(18, 0);
+    }
+    if start_words.len() != count * (table.variables + DOORS) {
+        return refused(19, 0);
+    }
+    if state.len() != count * PROCESS_WORDS {
+        return refused(20, 0);
+    }
+    if roll.len() != count * ROLL_WORDS {
+        return refused(21, 0);
+    }
+    state.fill(0);
+    roll.fill(RUNNING);
+    let main_body = table.body(table.procedures.len() - 1);
+    let given = start_words.chunks_exact(table.variables + DOORS);
+    for (given, words) in given.zip(state.as_chunks_mut::<PROCESS_WORDS>().0) {
+        let (variables, doors) = given.split_at(table.variables);
+        words[..variables.len()].copy_from_slice(variables);
+        words[DOORS_BEGIN..LATCHES_BEGIN].copy_from_slice(doors);
+        push(words, main_body);
+    }
+    Ok(())
+}
+
+pub fn step(
+    table: &[u8],
+    state: &mut [u32],
+    roll: &mut [u32],
+    process: u32,
+) -> Result<Answer, Refusal> {
+    let (table, facts) = read(table)?;
+    let (records, rest) = roll.as_chunks_mut();
+    let count = records.len();
+    if !rest.is_empty() || !(1..=MOST_PROCESSES).contains(&count) {
+        return refused(21, 0);
+    }
+    if state.len() != count * PROCESS_WORDS {
+        return refused(20, 0);
+    }
+    let mut team = Team {
+        table,
+        facts,
+        processes: state.as_chunks_mut().0,
+        records,
+    };
+    let number = process as usize;
+    if number >= count {
+        return refused(22, number);
+    }
+    if let Some(unsound) = team.first_unsound() {
+        return refused(23, unsound);
+    }
+    let event = team.turn(number)?;
+    let team = team.status();
+    Ok(Answer { event, team })
+}
+
+struct Team<'lent> {
+    table: Table<'lent>,
+    facts: Facts,
+    processes: &'lent mut [Words],
+    records: &'lent mut [Record],
+}
+
+impl Team<'_> {
+    /// Question 23.
+    fn first_unsound(&self) -> Option<usize> {
+        let mut both = self.processes.iter().zip(&*self.records);
+        both.position(|(words, record)| !self.is_sound(words, record))
+            .or(self.common_node().map(|_| 0))
+    }
+
+    fn is_sound(&self, words: &Words, record: &Record) -> bool {
+        let Some(stack) = words[STACK..].get(..words[DEPTH] as usize) else {
+            return false;
+        };
+        let facts = &self.facts;
+        let is_statement = |&entry: &u32| {
+            facts
+                .get(entry as usize)
+                .is_some_and(|f| f & STATEMENT != 0)
+        };
+        stack.iter().all(is_statement)
+            && match (record, stack.last()) {
+                ([ENDED, 0, 0, 0], top) => top.is_none(),
+                ([RUNNING, 0, 0, 0], top) => top.is_some(),
+                (&[WAITING, node, value, source], Some(&top)) if top == node => {
+                    match self.table.node(node as usize).kind {
+                        23 => value | source == 0,
+                        24 => true,
+                        25 => source == 0,
+                        _ => false,
+                    }
+                }
+                _ => false,
+            }
+    }
+
+    /// Where all processes wait, if they do.
+    fn common_node(&self) -> Option<usize> {
+        let node = self.records[0][1];
+        let mut records = self.records.iter();
+        let all = records.all(|record| record[0] == WAITING && record[1] == node);
+        all.then_some(node as usize)
+    }
+
+    fn turn(&mut self, number: usize) -> Result<Event, Refusal> {
+        match self.records[number][0] {
+            WAITING => return Ok(Event::Waiting),
+            ENDED => return Ok(Event::Ended),
+            _ => (),
+        }
+        let top = top(&self.processes[number]);
+        let node = self.table.node(top);
+        if node.kind >= 23 {
+            return Ok(self.arrive(number, top, node));
+        }
+        if !self.perform(number, node) {
+            return refused(24, number);
+        }
+        if self.processes[number][DEPTH] > 0 {
+            return Ok(Event::Moved);
+        }
+        self.records[number] = [ENDED, 0, 0, 0];
+        Ok(Event::Finished)
+    }
+
+    /// A statement that is no collective; false if there is no place on the stack.
+    fn perform(&mut self, number: usize, node: Node) -> bool {
+        let Node { kind, a, b, c } = node;
+        let value = |part| self.value(number, part);
+        let place = match kind {
+            17 => Some((a, value(b))),
+            22 => Some((value(a) as usize, value(b))).filter(|&(latch, _)| latch < LATCHES),
+            _ => None,
+        };
+        let holds = matches!(kind, 19 | 20) && value(a) != 0;
+        let body = if kind == 21 { self.table.body(a) } else { 0 };
+        let words = &mut self.processes[number];
+        if words[DEPTH] as usize == STACK_PLACES && (kind == 18 || kind == 20 && holds) {
+            return false;
+        }
+        match kind {
+            18 => {
+                replace(words, b);
+                push(words, a);
+            }
+            19 => replace(words, if holds { b } else { c }),
+            20 if holds => push(words, b),
+            21 => replace(words, body),
+            _ => pop(words),
+        }
+        if let Some((index, value)) = place {
+            let begin = if kind == 17 { 0 } else { LATCHES_BEGIN };
+            words[begin + index] = value;
+        }
+        true
+    }
+
+    fn arrive(&mut self, number: usize, top: usize, node: Node) -> Event {
+        let (value, source) = match node.kind {
+            24 => (self.value(number, node.b), self.value(number, node.c)),
+            25 => (self.value(number, node.a), 0),
+            _ => (0, 0),
+        };
+        self.records[number] = [WAITING, top as u32, value, source];
+        if self.common_node().is_none() {
+            return Event::Arrived(top as u32);
+        }
+        self.complete(node);
+        Event::Completed(top as u32)
+    }
+
+    fn complete(&mut self, node: Node) {
+        let count = self.records.len();
+        for (words, record) in self.processes.iter_mut().zip(&*self.records) {
+            match node.kind {
+                24 => words[node.a] = self.records[record[3] as usize % count][2],
+                25 => {
+                    let gathered = &mut words[GATHERED..];
+                    let values = self.records.iter().map(|record| record[2]);
+                    gathered
+                        .iter_mut()
+                        .zip(values)
+                        .for_each(|(slot, value)| *slot = value);
+                }
+                _ => (),
+            }
+            pop(words);
+        }
+        for (words, record) in self.processes.iter().zip(&mut *self.records) {
+            let status = if words[DEPTH] == 0 { ENDED } else { RUNNING };
+            *record = [status, 0, 0, 0];
+        }
+    }
+
+    fn status(&self) -> TeamStatus {
+        let mut all_ended = true;
+        for record in &*self.records {
+            match record[0] {
+                RUNNING => return TeamStatus::Going,
+                status => all_ended &= status == ENDED,
+            }
+        }
+        if all_ended {
+            TeamStatus::Done
+        } else {
+            TeamStatus::Deadlocked
+        }
+    }
+
+    fn value(&self, number: usize, node: usize) -> u32 {
+        let words = &self.processes[number];
+        let Node { kind, a, b, c } = self.table.node(node);
+        match kind {
+            0 => return (b * 512 + c) as u32,
+            1 => return words[a],
+            2 => return number as u32,
+            3 => return self.records.len() as u32,
+            _ => (),
+        }
+        let left = self.value(number, a);
+        let looked_up = |begin, count| match (left as usize) < count {
+            true => words[begin + left as usize],
+            false => 0,
+        };
+        match kind {
+            4 => return looked_up(DOORS_BEGIN, DOORS),
+            5 => return looked_up(GATHERED, self.records.len()),
+            _ => (),
+        }
+        let right = self.value(number, b);
+        match kind {
+            6 => left.wrapping_add(right),
+            7 => left.wrapping_sub(right),
+            8 => left.wrapping_mul(right),
+            9 => left.checked_div(right).unwrap_or(0),
+            10 => (left < right) as u32,
+            11 => (left == right) as u32,
+            _ => (left != 0 && right != 0) as u32,
+        }
+    }
+}
+
+fn top(words: &Words) -> usize {
+    words[STACK + words[DEPTH] as usize - 1] as usize
+}
+
+fn push(words: &mut Words, node: usize) {
+    words[STACK + words[DEPTH] as usize] = node as u32;
+    words[DEPTH] += 1;
+}
+
+fn pop(words: &mut Words) {
+    words[DEPTH] -= 1;
+    words[STACK + words[DEPTH] as usize] = 0;
+}
+
+fn replace(words: &mut Words, node: usize) {
+    words[STACK + words[DEPTH] as usize - 1] = node as u32;
+}

@@ -1,0 +1,187 @@
+//! What is timed. Each piece of work is done by the library and by plain Rust, on buffers of their
+//! own that are equal.
+
+use crate::{inputs, native};
+use finchchaise::{Answer, Refusal, TeamStatus};
+use finchchaise::{DOORS, PROCESS_WORDS, ROLL_WORDS, SCRATCH_WORDS};
+use finchchaise_samples::stocktake;
+
+const STOCKTAKE_VARIABLES: usize = 4;
+const EXCHANGE: u8 = 25;
+const DEPTH: usize = 72;
+
+type Check = fn(&[u8], &mut [u32]) -> Result<(), Refusal>;
+type Start = fn(&[u8], u32, &[u32], &mut [u32], &mut [u32]) -> Result<(), Refusal>;
+type Step = fn(&[u8], &mut [u32], &mut [u32], u32) -> Result<Answer, Refusal>;
+
+/// The three calls, of either side.
+#[derive(Clone, Copy)]
+pub struct Side {
+    check: Check,
+    start: Start,
+    step: Step,
+}
+
+pub const LIBRARY: Side = Side {
+    check: finchchaise::check,
+    start: finchchaise::start,
+    step: finchchaise::step,
+};
+
+pub const NATIVE: Side = Side {
+    check: native::check,
+    start: native::start,
+    step: native::step,
+};
+
+#[derive(Clone, Copy, Debug, PartialEq)]
+enum Task {
+    Check,
+    /// The next process's step.
+    Step,
+    /// The same process's step each time.
+    Idle,
+    /// A start and all steps to the end.
+    Run,
+}
+
+#[derive(Clone, Debug, PartialEq)]
+pub struct Work {
+    pub what: String,
+    task: Task,
+    table: Vec<u8>,
+    processes: u32,
+    start_words: Vec<u32>,
+    scratch: Vec<u32>,
+    state: Vec<u32>,
+    roll: Vec<u32>,
+    next: u32,
+    /// Calls that ask the table's questions, so far.
+    pub calls: usize,
+    checked: Result<(), Refusal>,
+    stepped: Option<Result<Answer, Refusal>>,
+}
+
+/// All that is timed, in the order in which it is printed.
+pub fn all() -> Vec<Work> {
+    let mut all = Vec::new();
+    for procedures in [1, 16] {
+        all.extend([16, 64, 256].map(|nodes| Work::check(nodes, procedures)));
+    }
+    for (nodes, procedures) in [(16, 1), (256, 16)] {
+        all.extend([1, 4, 16].map(|processes| Work::step(nodes, procedures, processes)));
+    }
+    all.push(Work::idle());
+    all.extend([2, 4, 16].map(Work::run));
+    all
+}
+
+impl Work {
+    fn new(what: String, task: Task, table: Vec<u8>, variables: usize, processes: u32) -> Work {
+        let count = processes as usize;
+        let doors = (0..DOORS as u32).map(|door| door % 3 % 2);
+        let given: Vec<u32> = vec![0; variables].into_iter().chain(doors).collect();
+        Work {
+            what,
+            task,
+            table,
+            processes,
+            start_words: given.repeat(count),
+            scratch: vec![0; SCRATCH_WORDS],
+            state: vec![0; count * PROCESS_WORDS],
+            roll: vec![0; count * ROLL_WORDS],
+            next: 0,
+            calls: 0,
+            checked: Ok(()),
+            stepped: None,
+        }
+    }
+
+    fn check(nodes: usize, procedures: usize) -> Work {
+        let what = format!("check, N {nodes}, P {procedures}");
+        let table = inputs::table(nodes, procedures);
+        Work::new(what, Task::Check, table, inputs::VARIABLES, 1)
+    }
+
+    fn step(nodes: usize, procedures: usize, processes: u32) -> Work {
+        let what = format!("step, N {nodes}, P {procedures}, processes {processes}");
+        let table = inputs::table(nodes, procedures);
+        let mut work = Work::new(what, Task::Step, table, inputs::VARIABLES, processes);
+        work.start(LIBRARY);
+        work
+    }
+
+    /// The most that a step can have to read: every stack is full. Process 0 waits, so nothing
+    /// changes.
+    fn idle() -> Work {
+        let mut work = Work::step(256, 16, 16);
+        work.what = "step of a waiting process, all stacks full".to_string();
+        work.task = Task::Idle;
+        let kinds = work
+            .table
+            .iter()
+            .skip(4 * 18)
+            .step_by(4)
+            .map(|byte| byte >> 3);
+        let exchange = kinds.into_iter().position(|kind| kind == EXCHANGE);
+        let node = exchange.expect("an exchange") as u32;
+        for words in work.state.chunks_exact_mut(PROCESS_WORDS) {
+            words[DEPTH] = 256;
+            words[DEPTH + 1..].fill(node);
+        }
+        work.roll[..2].copy_from_slice(&[1, node]);
+        work
+    }
+
+    fn run(processes: u32) -> Work {
+        let what = format!("whole stocktake, processes {processes}");
+        Work::new(what, Task::Run, stocktake(), STOCKTAKE_VARIABLES, processes)
+    }
+
+    pub fn table_words(&self) -> usize {
+        self.table.len() / 4
+    }
+
+    pub fn once(&mut self, side: Side) {
+        match self.task {
+            Task::Check => {
+                self.calls += 1;
+                self.checked = (side.check)(&self.table, &mut self.scratch);
+            }
+            Task::Step | Task::Idle => {
+                self.take_step(side);
+            }
+            Task::Run => {
+                self.start(side);
+                while self.take_step(side) == Some(TeamStatus::Going) {}
+            }
+        }
+    }
+
+    fn start(&mut self, side: Side) {
+        let Work {
+            table, state, roll, ..
+        } = self;
+        self.calls += 1;
+        self.next = 0;
+        self.checked = (side.start)(table, self.processes, &self.start_words, state, roll);
+    }
+
+    fn take_step(&mut self, side: Side) -> Option<TeamStatus> {
+        let Work {
+            table, state, roll, ..
+        } = self;
+        let answer = (side.step)(table, state, roll, self.next);
+        self.calls += 1;
+        if self.task != Task::Idle {
+            self.next = (self.next + 1) % self.processes;
+        }
+        self.stepped = Some(answer);
+        answer.ok().map(|answer| answer.team)
+    }
+
+    /// Nothing may be refused: a refusal takes less time.
+    pub fn is_taken(&self) -> bool {
+        self.checked.is_ok() && !matches!(self.stepped, Some(Err(_)))
+    }
+}

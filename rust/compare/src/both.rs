@@ -1,0 +1,140 @@
+//! Calls of the library and of the model on copies of the same buffers. Answers and every word
+//! afterwards must be equal, or the call panics with what it was given.
+
+use crate::words;
+use finchchaise::{Answer, Refusal};
+use std::fmt::Debug;
+
+const MARGIN: usize = 3;
+const MARK: u32 = 0xFEED_F00D;
+
+/// Words lent out of the middle of a longer buffer, so that a word written beside them is seen too.
+#[derive(Clone, Debug, PartialEq)]
+struct Lent(Vec<u32>);
+
+impl Lent {
+    fn of(words: &[u32]) -> Lent {
+        Lent([&[MARK; MARGIN], words, &[MARK; MARGIN]].concat())
+    }
+
+    fn words(&mut self) -> &mut [u32] {
+        let end = self.0.len() - MARGIN;
+        &mut self.0[MARGIN..end]
+    }
+
+    /// Where the buffers first differ, counted from the first lent word, and what they hold there.
+    fn difference(&self, other: &Lent) -> Option<(isize, u32, u32)> {
+        let place = self.0.iter().zip(&other.0).position(|(a, b)| a != b)?;
+        Some((
+            place as isize - MARGIN as isize,
+            self.0[place],
+            other.0[place],
+        ))
+    }
+}
+
+pub fn check(table: &[u8], scratch: &[u32]) -> Result<(), Refusal> {
+    let (mut library, mut model) = (Lent::of(scratch), Lent::of(scratch));
+    let answer = finchchaise::check(table, library.words());
+    let expected = words::check(table, model.words());
+    assert!(
+        answer == expected && library == model,
+        "check of {} with {} words of scratch: library {answer:?}, model {expected:?}, \
+         scratch differs at {:?}",
+        hexadecimal(table),
+        scratch.len(),
+        library.difference(&model)
+    );
+    answer
+}
+
+/// How many words were copied, after a comparison with the part of the state that the model gives.
+pub fn latches(state: &[u32], process: u32, out: &[u32]) -> usize {
+    let part = finchchaise_model::latches(state, process as usize);
+    let (mut library, mut expected) = (Lent::of(out), Lent::of(out));
+    let count = part.len().min(out.len());
+    expected.words()[..count].copy_from_slice(&part[..count]);
+    let answer = finchchaise::copy_latches(state, process, library.words());
+    let whole = finchchaise::latches(state, process);
+    assert!(
+        answer == count && library == expected && whole.as_ref().map_or(&[][..], |l| l) == part,
+        "latches of {process} in {} words, room for {}: library {answer}, model {count}",
+        state.len(),
+        out.len()
+    );
+    answer
+}
+
+#[derive(Clone, PartialEq)]
+struct Buffers {
+    state: Lent,
+    roll: Lent,
+}
+
+/// A team whose state and roll are lent to both.
+pub struct Team<'table> {
+    table: &'table [u8],
+    library: Buffers,
+    model: Buffers,
+}
+
+impl Team<'_> {
+    pub fn new<'table>(table: &'table [u8], state: &[u32], roll: &[u32]) -> Team<'table> {
+        let buffers = Buffers {
+            state: Lent::of(state),
+            roll: Lent::of(roll),
+        };
+        Team {
+            table,
+            library: buffers.clone(),
+            model: buffers,
+        }
+    }
+
+    pub fn start(&mut self, processes: u32, start_words: &[u32]) -> Result<(), Refusal> {
+        let Team {
+            table,
+            library,
+            model,
+        } = self;
+        let (state, roll) = (library.state.words(), library.roll.words());
+        let answer = finchchaise::start(table, processes, start_words, state, roll);
+        let (state, roll) = (model.state.words(), model.roll.words());
+        let expected = words::start(table, processes, start_words, state, roll);
+        self.same(answer, expected, || {
+            format!("start of {processes} with {} words", start_words.len())
+        })
+    }
+
+    pub fn step(&mut self, process: u32) -> Result<Answer, Refusal> {
+        let Team {
+            table,
+            library,
+            model,
+        } = self;
+        let (state, roll) = (library.state.words(), library.roll.words());
+        let answer = finchchaise::step(table, state, roll, process);
+        let (state, roll) = (model.state.words(), model.roll.words());
+        let expected = words::step(table, state, roll, process);
+        self.same(answer, expected, || format!("step of {process}"))
+    }
+
+    fn same<T: Debug + PartialEq>(&self, answer: T, expected: T, call: impl Fn() -> String) -> T {
+        let (library, model) = (&self.library, &self.model);
+        assert!(
+            answer == expected && library == model,
+            "{} of {}: library {answer:?}, model {expected:?}, state differs at {:?}, roll at \
+             {:?}; the model's roll is {:?}",
+            call(),
+            hexadecimal(self.table),
+            library.state.difference(&model.state),
+            library.roll.difference(&model.roll),
+            model.roll,
+        );
+        answer
+    }
+}
+
+fn hexadecimal(bytes: &[u8]) -> String {
+    bytes.iter().map(|byte| format!("{byte:02x}")).collect()
+}

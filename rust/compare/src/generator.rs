@@ -1,0 +1,230 @@
+//! Random tables that pass questions 2 to 12, and that the checker often accepts.
+
+use crate::order::renumber;
+use crate::random::Random;
+use finchchaise_samples::Builder;
+
+/// Tables are given at most one of these numbers of nodes.
+const SIZES: [usize; 10] = [1, 3, 8, 16, 16, 32, 32, 64, 128, 256];
+/// With this many nodes a statement is always made of others, so that large tables become large.
+const LARGE: usize = 14;
+/// A while that counts a variable up, without its body.
+const COUNTED_LOOP: usize = 9;
+
+/// A table that keeps the rules about single values, if `careful`, and breaks some of them
+/// otherwise.
+pub fn table(random: &mut Random, careful: bool) -> Builder {
+    let size = random.pick(&SIZES);
+    let variables = random.pick(&[1, 2, 3, 4, 4, 8, 31, 32]);
+    let flags = random.number();
+    let single: Vec<u32> = (0..variables).filter(|a| flags >> a & 1 == 1).collect();
+    let mut draft = Draft {
+        random,
+        table: Builder::new(variables, &single),
+        effects: Vec::new(),
+        careful,
+    };
+    draft.procedures(size);
+    let Draft { random, table, .. } = draft;
+    if random.one_in(2) {
+        renumber(&table, random)
+    } else {
+        table
+    }
+}
+
+pub(crate) struct Draft<'random> {
+    pub random: &'random mut Random,
+    pub table: Builder,
+    /// Whether each node is a statement with a global effect.
+    effects: Vec<bool>,
+    careful: bool,
+}
+
+impl Draft<'_> {
+    fn procedures(&mut self, size: usize) {
+        let count = match self.random.below(4) {
+            0 => 1,
+            1 => self.random.from(1, 16.min(size)),
+            _ => self.random.from(1, 4.min(size)),
+        };
+        for after in (0..count).rev() {
+            let left = size - self.table.nodes.len();
+            let share = match after {
+                0 => left,
+                _ => self
+                    .random
+                    .from(1, (2 * left / (after + 1)).min(left - after)),
+            };
+            let quiet = after > 0 && self.random.one_in(3);
+            let mut body = self.statement(share, quiet);
+            if after == 0 && self.random.one_in(2) {
+                body = self.filled(size, body);
+            }
+            let effect = self.effects[body as usize] && !self.slips();
+            let effect = effect || self.random.one_in(12);
+            self.table.procedure(body, effect);
+        }
+    }
+
+    /// The body behind more statements, so that the table has as many nodes as it may.
+    fn filled(&mut self, size: usize, mut body: u32) -> u32 {
+        while size - self.table.nodes.len() > 1 {
+            let first = if (size - self.table.nodes.len()).is_multiple_of(2) {
+                self.add(16, [0, 0, 0], false)
+            } else {
+                self.exchange(2)
+            };
+            body = self.sequence_of(first, body);
+        }
+        body
+    }
+
+    pub fn add(&mut self, kind: u32, [a, b, c]: [u32; 3], effect: bool) -> u32 {
+        self.effects.push(effect);
+        self.table.node(kind, a, b, c)
+    }
+
+    /// Whether a rule about single values is broken here.
+    pub fn slips(&mut self) -> bool {
+        !self.careful && self.random.one_in(8)
+    }
+
+    pub fn is_single(&self, variable: u32) -> bool {
+        self.table.single.contains(&variable)
+    }
+
+    /// A variable that is single or not, if there is one.
+    pub fn variable(&mut self, single: bool) -> Option<u32> {
+        let first = self.random.below(self.table.variables as usize) as u32;
+        (0..self.table.variables)
+            .map(|step| (first + step) % self.table.variables)
+            .find(|&variable| self.is_single(variable) == single)
+    }
+
+    /// What is left after one node, in two parts that are not 0. Often nearly all goes to the first,
+    /// so that some trees are deep.
+    pub fn split(&mut self, budget: usize) -> (usize, usize) {
+        let first = match self.random.one_in(3) {
+            true => budget - 2,
+            false => self.random.from(1, budget - 2),
+        };
+        (first, budget - 1 - first)
+    }
+}
+
+/// Statements: each takes at most `budget` nodes, and has no global effect if it is to be quiet.
+impl Draft<'_> {
+    fn statement(&mut self, budget: usize, quiet: bool) -> u32 {
+        let quiet = quiet && !self.slips();
+        let choices = if budget < LARGE { 16 } else { 8 };
+        match self.random.below(choices) {
+            0..=3 if budget >= 3 => self.sequence(budget, quiet),
+            4 | 5 if budget >= 4 => self.choose(budget, quiet),
+            6 if budget > COUNTED_LOOP => self.counted_loop(budget, quiet),
+            7 if budget >= 3 && self.random.one_in(5) => self.repeat(budget, quiet),
+            7 if budget >= 3 => self.sequence(budget, quiet),
+            8 | 9 if budget >= 3 => self.latch(budget),
+            10 | 11 if budget >= 3 && !quiet => self.broadcast(budget),
+            12 if budget >= 2 && !quiet => self.exchange(budget),
+            13 | 14 if budget >= 2 => self.assign(budget, quiet),
+            _ => self.short(quiet),
+        }
+    }
+
+    fn short(&mut self, quiet: bool) -> u32 {
+        let called = self.random.below(self.table.procedures.len() + 1);
+        match self.table.procedures.get(called) {
+            Some(&(_, effect)) if !(effect && quiet) => self.add(21, [called as u32, 0, 0], effect),
+            _ if !quiet && self.random.one_in(2) => self.add(23, [0, 0, 0], true),
+            _ => self.add(16, [0, 0, 0], false),
+        }
+    }
+
+    fn assign(&mut self, budget: usize, quiet: bool) -> u32 {
+        let single = !quiet && self.random.one_in(2);
+        let Some(variable) = self.variable(single) else {
+            return self.short(quiet);
+        };
+        let single_value = single && !self.slips();
+        let value = self.expression(budget - 1, single_value);
+        self.add(17, [variable, value, 0], single)
+    }
+
+    fn latch(&mut self, budget: usize) -> u32 {
+        let (first, second) = self.split(budget);
+        let latch = self.expression(first.min(3), false);
+        let value = self.expression(second, false);
+        self.add(22, [latch, value, 0], false)
+    }
+
+    fn broadcast(&mut self, budget: usize) -> u32 {
+        let (first, second) = self.split(budget);
+        let variable = self.random.below(self.table.variables as usize) as u32;
+        let value = self.expression(first, false);
+        let single_source = !self.slips();
+        let source = self.expression(second, single_source);
+        self.add(24, [variable, value, source], true)
+    }
+
+    fn exchange(&mut self, budget: usize) -> u32 {
+        let value = self.expression(budget - 1, false);
+        self.add(25, [value, 0, 0], true)
+    }
+
+    fn sequence(&mut self, budget: usize, quiet: bool) -> u32 {
+        let (first, second) = self.split(budget);
+        let first = self.statement(first, quiet);
+        let second = self.statement(second, quiet);
+        self.sequence_of(first, second)
+    }
+
+    fn sequence_of(&mut self, first: u32, second: u32) -> u32 {
+        let effect = self.effects[first as usize] || self.effects[second as usize];
+        self.add(18, [first, second, 0], effect)
+    }
+
+    fn choose(&mut self, budget: usize, quiet: bool) -> u32 {
+        let single = self.random.one_in(2);
+        let condition = self.random.from(1, (budget - 3).min(7));
+        let (then, otherwise) = self.split(budget - condition);
+        let condition = self.expression(condition, single);
+        let quiet = quiet || (!single && !self.slips());
+        let then = self.statement(then, quiet);
+        let otherwise = self.statement(otherwise, quiet);
+        let effect = self.effects[then as usize] || self.effects[otherwise as usize];
+        self.add(19, [condition, then, otherwise], effect)
+    }
+
+    /// A while that may well go on for ever.
+    fn repeat(&mut self, budget: usize, quiet: bool) -> u32 {
+        let single = self.random.one_in(2);
+        let condition = self.random.from(1, (budget - 2).min(5));
+        let body = budget - 1 - condition;
+        let condition = self.expression(condition, single);
+        let quiet = quiet || (!single && !self.slips());
+        let body = self.statement(body, quiet);
+        let effect = self.effects[body as usize];
+        self.add(20, [condition, body, 0], effect)
+    }
+
+    /// A while that ends unless its body also changes the variable.
+    fn counted_loop(&mut self, budget: usize, quiet: bool) -> u32 {
+        let single = !quiet && self.random.one_in(2);
+        let Some(variable) = self.variable(single) else {
+            return self.short(quiet);
+        };
+        let rounds = self.random.from(1, 4) as u32;
+        let left = self.add(1, [variable, 0, 0], false);
+        let right = self.add(0, [0, 0, rounds], false);
+        let condition = self.add(10, [left, right, 0], false);
+        let body = self.statement(budget - COUNTED_LOOP, quiet || !single);
+        let old = self.add(1, [variable, 0, 0], false);
+        let one = self.add(0, [0, 0, 1], false);
+        let new = self.add(6, [old, one, 0], false);
+        let next = self.add(17, [variable, new, 0], single);
+        let body = self.sequence_of(body, next);
+        let effect = self.effects[body as usize];
+        self.add(20, [condition, body, 0], effect)
+    }
+}

@@ -1,0 +1,23 @@
+//! What the comparison of the proved library with the model is made of: random and damaged inputs,
+//! calls of both on copies of the same buffers, and a count of what was covered. The comparison
+//! itself is in tests/.
+
+#![forbid(unsafe_code)]
+
+mod both;
+mod damage;
+mod expressions;
+mod generator;
+mod made_up;
+mod order;
+mod random;
+mod shape;
+mod tally;
+mod words;
+
+pub use both::{check, latches, Team};
+pub use damage::{damaged, random_bytes, small_table};
+pub use generator::table;
+pub use made_up::{MadeUp, Plan};
+pub use random::Random;
+pub use tally::Tally;

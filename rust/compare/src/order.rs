@@ -1,0 +1,50 @@
+//! Another numbering of a table's nodes.
+
+use crate::random::Random;
+use crate::shape::parts;
+use finchchaise_samples::Builder;
+
+/// The same table with its nodes in another order, parts still before the nodes that name them.
+pub fn renumber(table: &Builder, random: &mut Random) -> Builder {
+    let order = order(table, random);
+    let mut numbers = vec![0; order.len()];
+    for (number, &node) in order.iter().enumerate() {
+        numbers[node] = number as u32;
+    }
+    let mut renumbered = table.clone();
+    for (body, _) in &mut renumbered.procedures {
+        *body = numbers[*body as usize];
+    }
+    renumbered.nodes = order.iter().map(|&node| table.nodes[node]).collect();
+    for node in &mut renumbered.nodes {
+        for place in parts(node[0]) {
+            node[place] = numbers[node[place] as usize];
+        }
+    }
+    renumbered
+}
+
+/// Takes any node next whose parts have all been taken.
+fn order(table: &Builder, random: &mut Random) -> Vec<usize> {
+    let mut users = vec![None; table.nodes.len()];
+    let mut missing = vec![0; table.nodes.len()];
+    for (number, node) in table.nodes.iter().enumerate() {
+        for place in parts(node[0]) {
+            missing[number] += 1;
+            users[node[place] as usize] = Some(number);
+        }
+    }
+    let mut ready: Vec<usize> = (0..missing.len()).filter(|&n| missing[n] == 0).collect();
+    let mut order = Vec::new();
+    while !ready.is_empty() {
+        let node = ready.swap_remove(random.below(ready.len()));
+        order.push(node);
+        if let Some(user) = users[node] {
+            missing[user] -= 1;
+            if missing[user] == 0 {
+                ready.push(user);
+            }
+        }
+    }
+    order
+}

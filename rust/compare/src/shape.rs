@@ -1,0 +1,44 @@
+//! What the fields of each kind of node name.
+
+#[derive(Clone, Copy, PartialEq)]
+pub enum Field {
+    Unnamed,
+    Number,
+    Variable,
+    Procedure,
+    Expression,
+    Statement,
+}
+
+/// Kinds that exist.
+pub const KINDS: [u32; 23] = [
+    0, 1, 2, 3, 4, 5, 6, 7, 8, 9, 10, 11, 12, 16, 17, 18, 19, 20, 21, 22, 23, 24, 25,
+];
+
+pub fn is_statement(kind: u32) -> bool {
+    kind >= 16
+}
+
+/// A, B and C.
+pub fn fields(kind: u32) -> [Field; 3] {
+    use Field::*;
+    match kind {
+        0 => [Unnamed, Number, Number],
+        1 => [Variable, Unnamed, Unnamed],
+        4 | 5 | 25 => [Expression, Unnamed, Unnamed],
+        6..=12 | 22 => [Expression, Expression, Unnamed],
+        17 => [Variable, Expression, Unnamed],
+        18 => [Statement, Statement, Unnamed],
+        19 => [Expression, Statement, Statement],
+        20 => [Expression, Statement, Unnamed],
+        21 => [Procedure, Unnamed, Unnamed],
+        24 => [Variable, Expression, Expression],
+        _ => [Unnamed; 3],
+    }
+}
+
+/// The places of a node's parts in `[kind, A, B, C]`.
+pub fn parts(kind: u32) -> impl Iterator<Item = usize> {
+    let is_part = |field| matches!(field, Field::Expression | Field::Statement);
+    (1..4).filter(move |&place| is_part(fields(kind)[place - 1]))
+}

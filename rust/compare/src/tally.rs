@@ -1,0 +1,98 @@
+//! What a comparison has covered.
+
+use finchchaise::{Answer, Event, Refusal, TeamStatus};
+use std::io::Write;
+use std::{fmt, io};
+
+const NUMBERS: usize = 26;
+const EVENTS: [&str; 6] = ["moved", "finished", "arrived", "met", "waits", "ended"];
+const TEAMS: [&str; 3] = ["going", "done", "crossed"];
+
+#[derive(Default)]
+pub struct Tally {
+    /// Calls that were not refused.
+    pub taken: usize,
+    pub refused: [usize; NUMBERS],
+    pub events: [usize; 6],
+    pub teams: [usize; 3],
+    /// Refusals of teams that all wait at one node.
+    pub all_there: usize,
+}
+
+impl Tally {
+    pub fn judged(&mut self, answer: Result<(), Refusal>) {
+        match answer {
+            Ok(()) => self.taken += 1,
+            Err(refusal) => self.refused[refusal.number as usize] += 1,
+        }
+    }
+
+    pub fn stepped(&mut self, answer: Result<Answer, Refusal>) {
+        self.judged(answer.map(|_| ()));
+        if let Ok(Answer { event, team }) = answer {
+            let event = match event {
+                Event::Moved => 0,
+                Event::Finished => 1,
+                Event::Arrived(_) => 2,
+                Event::Completed(_) => 3,
+                Event::Waiting => 4,
+                Event::Ended => 5,
+            };
+            let team = match team {
+                TeamStatus::Going => 0,
+                TeamStatus::Done => 1,
+                TeamStatus::Deadlocked => 2,
+            };
+            self.events[event] += 1;
+            self.teams[team] += 1;
+        }
+    }
+
+    pub fn calls(&self) -> usize {
+        self.taken + self.refused.iter().sum::<usize>()
+    }
+
+    /// A comparison that covers little would pass without saying much.
+    pub fn assert_refused(&self, numbers: impl IntoIterator<Item = usize>, least: usize) {
+        for number in numbers {
+            let times = self.refused[number];
+            assert!(times >= least, "number {number} only {times} times: {self}");
+        }
+    }
+
+    pub fn assert_events(&self, least: usize) {
+        for (word, &times) in EVENTS.iter().zip(&self.events) {
+            assert!(times >= least, "{word} only {times} times: {self}");
+        }
+    }
+
+    /// Not by println, which a test keeps to itself unless it fails.
+    pub fn show(&self, what: &str) {
+        let line = format!("compared {what}: {self}\n");
+        io::stdout()
+            .write_all(line.as_bytes())
+            .expect("a line of output");
+    }
+}
+
+impl fmt::Display for Tally {
+    fn fmt(&self, out: &mut fmt::Formatter) -> fmt::Result {
+        write!(out, "{} calls, {} taken", self.calls(), self.taken)?;
+        let words = EVENTS.iter().chain(&TEAMS);
+        for (word, times) in words.zip(self.events.iter().chain(&self.teams)) {
+            if *times > 0 {
+                write!(out, ", {word} {times}")?;
+            }
+        }
+        if self.all_there > 0 {
+            write!(out, ", all at one node {}", self.all_there)?;
+        }
+        let numbers = self.refused.iter().enumerate();
+        let refused = numbers.filter(|(_, times)| **times > 0);
+        let refused: Vec<String> = refused.map(|(n, times)| format!("{n}: {times}")).collect();
+        match refused.is_empty() {
+            true => write!(out, "; none refused"),
+            false => write!(out, "; refused by number {}", refused.join(", ")),
+        }
+    }
+}

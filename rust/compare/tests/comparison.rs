@@ -1,0 +1,267 @@
+//! The proved library beside the model: the same answers, and the same words after every call.
+
+use finchchaise::{Answer, Refusal, TeamStatus, PROCESS_WORDS, ROLL_WORDS};
+use finchchaise_compare::{check, latches, MadeUp, Plan, Random, Tally, Team};
+use finchchaise_compare::{damaged, random_bytes, small_table, table};
+use finchchaise_samples::Builder;
+
+const CHECKS_A_SOURCE: usize = 50_000;
+const MOST_TURNS_A_PROCESS: usize = 60;
+const STARTS: usize = 30_000;
+const MADE_UP_TABLES: usize = 6_000;
+const TEAMS_A_TABLE: usize = 10;
+const LATCH_VIEWS: usize = 20_000;
+
+/// Scratch of the right length mostly, never cleared.
+fn scratch(random: &mut Random) -> Vec<u32> {
+    let length = match random.below(40) {
+        0 => random.pick(&[0, 1, 24, 255]),
+        1 => random.pick(&[257, 300]),
+        _ => 256,
+    };
+    vec![random.word(); length]
+}
+
+/// Checks tables out of one source.
+fn checks(what: &str, seed: u64, source: impl Fn(&mut Random) -> Vec<u8>) -> Tally {
+    let mut random = Random::new(seed);
+    let mut tally = Tally::default();
+    for _ in 0..CHECKS_A_SOURCE {
+        // Tables at any address: bytes need no alignment.
+        let mut bytes = vec![0; random.below(4)];
+        let offset = bytes.len();
+        bytes.extend(source(&mut random));
+        tally.judged(check(&bytes[offset..], &scratch(&mut random)));
+    }
+    tally.show(what);
+    tally
+}
+
+#[test]
+fn checks_of_tables_that_keep_the_rules() {
+    let tally = checks("checks of careful tables", 1, |random| {
+        table(random, true).bytes()
+    });
+    assert!(tally.taken * 10 > tally.calls() * 9, "{tally}");
+}
+
+#[test]
+fn checks_of_tables_that_break_rules_on_single_values() {
+    let tally = checks("checks of careless tables", 2, |random| {
+        table(random, false).bytes()
+    });
+    tally.assert_refused([1, 13, 14, 15, 16, 17], 500);
+}
+
+#[test]
+fn checks_of_damaged_tables() {
+    let tally = checks("checks of damaged tables", 3, |random| {
+        let careful = random.one_in(2);
+        damaged(&table(random, careful), random)
+    });
+    tally.assert_refused(1..=17, 50);
+}
+
+#[test]
+fn checks_of_small_tables() {
+    let tally = checks("checks of small tables", 4, small_table);
+    tally.assert_refused([6, 8, 9, 10, 11, 12, 17], 50);
+}
+
+#[test]
+fn checks_of_random_bytes() {
+    let tally = checks("checks of random bytes", 5, random_bytes);
+    tally.assert_refused(2..=7, 50);
+}
+
+/// Small words mostly, so that loops end; equal in the single variables if `equal`.
+fn start_words(table: &Builder, count: usize, equal: bool, random: &mut Random) -> Vec<u32> {
+    let mut words = Vec::new();
+    for process in 0..count {
+        for variable in 0..table.variables {
+            let single = table.single.contains(&variable);
+            words.push(match process > 0 && single && equal {
+                true => words[variable as usize],
+                false if random.one_in(4) => random.word(),
+                false => random.below(4) as u32,
+            });
+        }
+        words.extend(random.words(12));
+    }
+    words
+}
+
+#[derive(Default)]
+struct Runs {
+    starts: Tally,
+    steps: Tally,
+    /// Runs that came to an end; others loop for ever, or long.
+    ended: usize,
+}
+
+impl Runs {
+    /// Steps to the end and a few beyond, in random order; answers the team's last status.
+    fn steps(&mut self, team: &mut Team, count: usize, random: &mut Random) -> TeamStatus {
+        let mut last = TeamStatus::Going;
+        let mut beyond = 0;
+        for _ in 0..count * MOST_TURNS_A_PROCESS {
+            let process = match random.one_in(50) {
+                true => random.word(),
+                false => random.below(count) as u32,
+            };
+            let answer = team.step(process);
+            self.steps.stepped(answer);
+            match answer {
+                Ok(Answer { team, .. }) => last = team,
+                Err(refusal) => assert_eq!((refusal.number, refusal.place), (22, process)),
+            }
+            beyond += (last != TeamStatus::Going) as usize;
+            if beyond > 3 {
+                self.ended += 1;
+                break;
+            }
+        }
+        last
+    }
+
+    /// What demand 3 promises is looked at too: an accepted table does not deadlock.
+    fn run(&mut self, count: usize, random: &mut Random) {
+        let careful = !random.one_in(5);
+        let table = table(random, careful);
+        let bytes = table.bytes();
+        let equal = !random.one_in(8);
+        let words = start_words(&table, count, equal, random);
+        let state = random.words(count * PROCESS_WORDS);
+        let roll = random.words(count * ROLL_WORDS);
+        let mut team = Team::new(&bytes, &state, &roll);
+        self.starts.judged(team.start(count as u32, &words));
+        let last = self.steps(&mut team, count, random);
+        let promised = equal && check(&bytes, &[1; 256]).is_ok();
+        assert!(!promised || last != TeamStatus::Deadlocked);
+    }
+}
+
+/// As many runs as are asked for come to an end.
+fn runs(what: &str, seed: u64, least: usize, counts: &[usize]) {
+    let mut random = Random::new(seed);
+    let mut runs = Runs::default();
+    while runs.ended < least {
+        let count = random.pick(counts);
+        runs.run(count, &mut random);
+    }
+    runs.starts.show(&format!("runs of {what} ({least} ended)"));
+    runs.steps.show(&format!("steps of runs of {what}"));
+    assert_eq!(runs.starts.taken, runs.starts.calls());
+    assert!(runs.steps.teams[2] > 200, "{}", runs.steps);
+    runs.steps.assert_events(2_000);
+}
+
+#[test]
+fn runs_of_few_processes() {
+    runs("few processes", 6, 16_000, &[1, 2, 2, 3, 3, 4]);
+}
+
+#[test]
+fn runs_of_many_processes() {
+    runs("many processes", 7, 4_000, &[5, 6, 8, 11, 15, 16]);
+}
+
+/// As many random words as are asked for, or not quite.
+fn about(count: usize, random: &mut Random) -> Vec<u32> {
+    let wrong = random.pick(&[1, 4, 13, 329]);
+    let count = match random.below(8) {
+        0 => count.saturating_sub(wrong),
+        1 => count + wrong,
+        _ => count,
+    };
+    random.words(count)
+}
+
+#[test]
+fn starts_that_may_be_refused() {
+    let mut random = Random::new(8);
+    let random = &mut random;
+    let mut tally = Tally::default();
+    for _ in 0..STARTS {
+        let table = table(random, true);
+        let bytes = match random.one_in(4) {
+            true => damaged(&table, random),
+            false => table.bytes(),
+        };
+        let count = random.pick(&[1, 2, 2, 3, 3, 4, 5, 7, 16]);
+        let words = about(count * (table.variables as usize + 12), random);
+        let state = about(count * PROCESS_WORDS, random);
+        let roll = about(count * ROLL_WORDS, random);
+        let processes = match random.one_in(12) {
+            true => random.pick(&[0, 1, 16, 17, 0x8000_0000, u32::MAX]),
+            false => count as u32,
+        };
+        tally.judged(Team::new(&bytes, &state, &roll).start(processes, &words));
+    }
+    tally.show("starts");
+    assert!(tally.taken > STARTS / 10, "{tally}");
+    tally.assert_refused([2, 3, 4, 5, 6, 7, 8, 9, 10, 11, 12, 18, 19, 20, 21], 50);
+}
+
+/// One to three steps of a team that was made up.
+fn steps(bytes: &[u8], made_up: &MadeUp, tally: &mut Tally, random: &mut Random) {
+    let mut team = Team::new(bytes, &made_up.state, &made_up.roll);
+    let first = team.step(made_up.asked);
+    tally.stepped(first);
+    let unsound = Refusal {
+        number: 23,
+        place: 0,
+    };
+    if made_up.plan == Plan::AllThere && !made_up.damaged && first == Err(unsound) {
+        tally.all_there += 1;
+    }
+    for _ in 0..random.below(3) {
+        let process = random.nearly_below(made_up.roll.len() / ROLL_WORDS);
+        tally.stepped(team.step(process as u32));
+    }
+}
+
+#[test]
+fn steps_of_made_up_teams() {
+    let mut random = Random::new(9);
+    let random = &mut random;
+    let mut tally = Tally::default();
+    for _ in 0..MADE_UP_TABLES {
+        let careful = random.one_in(2);
+        let table = table(random, careful);
+        let bytes = match random.one_in(20) {
+            true => damaged(&table, random),
+            false => table.bytes(),
+        };
+        for _ in 0..TEAMS_A_TABLE {
+            let made_up = MadeUp::new(&table, random);
+            steps(&bytes, &made_up, &mut tally, random);
+        }
+    }
+    tally.show("steps of made-up teams");
+    assert!(tally.calls() >= 100_000, "{tally}");
+    tally.assert_events(2_000);
+    tally.assert_refused([2, 3, 6, 7, 8, 9, 11], 50);
+    tally.assert_refused(20..=24, 500);
+    assert!(tally.all_there > 1_000, "{tally}");
+}
+
+#[test]
+fn latches_of_any_state() {
+    let mut random = Random::new(10);
+    let mut copied = [0; 13];
+    for _ in 0..LATCH_VIEWS {
+        let count = random.below(18);
+        let state = about(count * PROCESS_WORDS, &mut random);
+        let process = match random.one_in(4) {
+            true => random.word(),
+            false => random.below(count + 2) as u32,
+        };
+        let room = random.pick(&[0, 1, 5, 11, 12, 12, 12, 13, 20]);
+        copied[latches(&state, process, &vec![7; room])] += 1;
+    }
+    assert!(
+        [0, 1, 5, 11, 12].iter().all(|&count| copied[count] > 500),
+        "{copied:?}"
+    );
+}

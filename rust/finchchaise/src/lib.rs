@@ -1,0 +1,93 @@
+//! Safe Rust over the proved library: a checker of site tables and a machine that runs them.
+//!
+//! The host lends all memory; the library allocates nothing and keeps nothing between calls. Any
+//! bytes and words may be passed: what does not fit is refused, and a refused call changes neither
+//! state nor roll. The words are described in docs/FORMAT.md. A process is the rules paper's bank,
+//! a team its site, a step its turn and a collective its meeting.
+//!
+//! ```
+//! use finchchaise::{check, start, step, Event, TeamStatus};
+//! use finchchaise::{PROCESS_WORDS, ROLL_WORDS, SCRATCH_WORDS};
+//!
+//! // If there are any processes then a barrier, else nothing; one variable.
+//! let words: [u32; 7] = [
+//!     0x10420400, 0x00000000, 0x03800000, 0x18000000, 0xB8000000, 0x80000000, 0x98000202,
+//! ];
+//! let table: Vec<u8> = words.iter().flat_map(|word| word.to_be_bytes()).collect();
+//! check(&table, &mut [0; SCRATCH_WORDS])?;
+//!
+//! let mut state = [0; 2 * PROCESS_WORDS];
+//! let mut roll = [0; 2 * ROLL_WORDS];
+//! start(&table, 2, &[0; 2 * 13], &mut state, &mut roll)?;
+//! for process in [0, 0, 1] {
+//!     step(&table, &mut state, &mut roll, process)?;
+//! }
+//! let last = step(&table, &mut state, &mut roll, 1)?;
+//! assert_eq!((last.event, last.team), (Event::Completed(1), TeamStatus::Done));
+//! # Ok::<(), finchchaise::Refusal>(())
+//! ```
+
+#![no_std]
+
+mod answer;
+mod arrival;
+mod raw;
+
+pub use answer::{Answer, Event, Refusal, TeamStatus};
+pub use arrival::{Arrival, Status};
+
+/// The longest table.
+pub const MOST_TABLE_BYTES: usize = 1096;
+pub const MOST_PROCESSES: usize = 16;
+/// Doors of a process; start words are the table's variables and these, for each process.
+pub const DOORS: usize = 12;
+pub const LATCHES: usize = 12;
+/// Words of state for each process.
+pub const PROCESS_WORDS: usize = 329;
+/// Words of roll for each process.
+pub const ROLL_WORDS: usize = 4;
+/// Words of scratch that the checker needs.
+pub const SCRATCH_WORDS: usize = 256;
+
+/// The checker (questions 1 to 17). What the scratch holds before plays no part. Its first 256
+/// words are 0 afterwards, unless there are fewer, which is refused with 1.
+pub fn check(table: &[u8], scratch: &mut [u32]) -> Result<(), Refusal> {
+    Refusal::judged(raw::check(table, scratch))
+}
+
+/// Starts a team (questions 2 to 12 and 18 to 21) and writes every word of state and roll.
+///
+/// It does not ask whether the checker accepts the table. `start_words` holds for each process the
+/// table's variables and then its doors.
+pub fn start(
+    table: &[u8],
+    processes: u32,
+    start_words: &[u32],
+    state: &mut [u32],
+    roll: &mut [u32],
+) -> Result<(), Refusal> {
+    Refusal::judged(raw::start(table, processes, start_words, state, roll))
+}
+
+/// One step of a process (questions 2 to 12 and 20 to 24). Table, state and roll are those of the
+/// start, as the step before left them.
+pub fn step(
+    table: &[u8],
+    state: &mut [u32],
+    roll: &mut [u32],
+    process: u32,
+) -> Result<Answer, Refusal> {
+    Answer::judged(raw::step(table, state, roll, process))
+}
+
+/// A process's latches, or `None` for a process that the state lacks and for a state that is no
+/// whole number of processes.
+pub fn latches(state: &[u32], process: u32) -> Option<[u32; LATCHES]> {
+    let mut latches = [0; LATCHES];
+    (copy_latches(state, process, &mut latches) == LATCHES).then_some(latches)
+}
+
+/// Copies as many of a process's latches as `out` has room for, and answers how many.
+pub fn copy_latches(state: &[u32], process: u32, out: &mut [u32]) -> usize {
+    raw::latches(state, process, out) as usize
+}

@@ -1,0 +1,187 @@
+//! The tables and runs of samples/, which an .md beside each explains to site staff.
+//!
+//! `cargo run --offline -p finchchaise-samples` writes the files; a test compares them.
+
+#![forbid(unsafe_code)]
+
+mod builder;
+
+pub use builder::{bytes, Builder};
+
+/// A file of samples/.
+pub struct Sample {
+    pub name: &'static str,
+    pub bytes: Vec<u8>,
+}
+
+/// Every file that is made here.
+pub fn samples() -> Vec<Sample> {
+    let file = |name, bytes| Sample { name, bytes };
+    vec![
+        file("t1.table", t1()),
+        file("t2.table", t2()),
+        file("stocktake.table", stocktake()),
+        file("tariff.table", tariff()),
+        file("t2-two.run", t2_two()),
+        file("stocktake.run", stocktake_run()),
+        file("tariff.run", tariff_run()),
+    ]
+}
+
+/// The rules paper's T1: if own number then barrier else nothing.
+pub fn t1() -> Vec<u8> {
+    let mut table = Builder::new(1, &[]);
+    let condition = table.own_number();
+    barrier_if(table, condition)
+}
+
+/// The rules paper's T2: if number of processes then barrier else nothing.
+pub fn t2() -> Vec<u8> {
+    let mut table = Builder::new(1, &[]);
+    let condition = table.count();
+    barrier_if(table, condition)
+}
+
+fn barrier_if(mut table: Builder, condition: u32) -> Vec<u8> {
+    let barrier = table.barrier();
+    let nothing = table.nothing();
+    let body = table.choose(condition, barrier, nothing);
+    table.procedure(body, true);
+    table.bytes()
+}
+
+/// Variables of the stocktake: the door looked at, the occupied doors counted, and the same on all
+/// processes: the slot looked at, the total.
+const DOOR: u32 = 0;
+const OCCUPIED: u32 = 1;
+const SLOT: u32 = 2;
+const TOTAL: u32 = 3;
+
+/// Every process counts its occupied doors, the counts are exchanged, every process adds them up.
+pub fn stocktake() -> Vec<u8> {
+    let mut table = Builder::new(4, &[SLOT, TOTAL]);
+    let count_doors = count_doors(&mut table);
+    let add_up = add_up(&mut table);
+    let counting = table.call(count_doors);
+    let occupied = table.variable(OCCUPIED);
+    let exchange = table.exchange(occupied);
+    let adding = table.call(add_up);
+    let shown = table.constant(0);
+    let total = table.variable(TOTAL);
+    let show = table.latch(shown, total);
+    let end = table.sequence(adding, show);
+    let middle = table.sequence(exchange, end);
+    let body = table.sequence(counting, middle);
+    table.procedure(body, true);
+    table.bytes()
+}
+
+/// Door by door; no global effect, since only own variables change.
+fn count_doors(table: &mut Builder) -> u32 {
+    let door = table.variable(DOOR);
+    let doors = table.constant(12);
+    let any_left = table.less(door, doors);
+    let door = table.variable(DOOR);
+    let is_occupied = table.door(door);
+    let count = table.increase(OCCUPIED);
+    let pass = table.nothing();
+    let look = table.choose(is_occupied, count, pass);
+    let next = table.increase(DOOR);
+    let body = table.sequence(look, next);
+    let body = table.repeat(any_left, body);
+    table.procedure(body, false)
+}
+
+/// Slot by slot; it assigns single variables, so it has a global effect.
+fn add_up(table: &mut Builder) -> u32 {
+    let slot = table.variable(SLOT);
+    let count = table.count();
+    let any_left = table.less(slot, count);
+    let total = table.variable(TOTAL);
+    let slot = table.variable(SLOT);
+    let counted = table.gathered(slot);
+    let new_total = table.sum(total, counted);
+    let add = table.assign(TOTAL, new_total);
+    let next = table.increase(SLOT);
+    let body = table.sequence(add, next);
+    let body = table.repeat(any_left, body);
+    table.procedure(body, true)
+}
+
+/// Variables of the tariff change: the tariff, the same on all processes, and what is offered at a
+/// process's own desk.
+const TARIFF: u32 = 0;
+const OFFERED: u32 = 1;
+
+/// Process 1's offer becomes everyone's tariff. A tariff of 1,000 or more is shown only once all are
+/// ready.
+pub fn tariff() -> Vec<u8> {
+    let mut table = Builder::new(2, &[TARIFF]);
+    let offered = table.variable(OFFERED);
+    let desk = table.constant(1);
+    let send = table.broadcast(TARIFF, offered, desk);
+    let limit = table.constant(999);
+    let tariff = table.variable(TARIFF);
+    let is_high = table.less(limit, tariff);
+    let lamp = table.constant(1);
+    let on = table.constant(1);
+    let warn = table.latch(lamp, on);
+    let together = table.barrier();
+    let careful = table.sequence(warn, together);
+    let pass = table.nothing();
+    let prepare = table.choose(is_high, careful, pass);
+    let sign = table.constant(0);
+    let tariff = table.variable(TARIFF);
+    let show = table.latch(sign, tariff);
+    let rest = table.sequence(prepare, show);
+    let body = table.sequence(send, rest);
+    table.procedure(body, true);
+    table.bytes()
+}
+
+/// A run program's input: length, table, number of processes, start words, turns.
+pub fn run_input(table: &[u8], processes: u32, start: &[u32], turns: &[u8]) -> Vec<u8> {
+    let mut input = bytes(&[table.len() as u32]);
+    input.extend(table);
+    input.extend(bytes(&[processes]));
+    input.extend(bytes(start));
+    input.extend(turns);
+    input
+}
+
+fn t2_two() -> Vec<u8> {
+    run_input(&t2(), 2, &[0; 2 * 13], &[0, 0, 1, 1])
+}
+
+/// The doors of the sample's two processes: three and five are occupied.
+const BAGS: [[u32; 12]; 2] = [
+    [0, 1, 0, 0, 1, 0, 0, 0, 0, 0, 0, 1],
+    [1, 1, 0, 0, 0, 1, 0, 0, 1, 1, 0, 0],
+];
+
+/// In turns: a step for process 0, one for process 1, and so on.
+fn stocktake_run() -> Vec<u8> {
+    let variables = [0; 4];
+    let start: Vec<u32> = BAGS
+        .iter()
+        .flat_map(|doors| variables.iter().chain(doors))
+        .copied()
+        .collect();
+    run_input(&stocktake(), 2, &start, &[0, 1].repeat(STOCKTAKE_STEPS))
+}
+
+/// Steps that each process needs to the end.
+const STOCKTAKE_STEPS: usize = 77;
+
+/// Three processes; 1,250 is offered at the desk of process 1.
+fn tariff_run() -> Vec<u8> {
+    let offers = [900, 1250, 0];
+    let start: Vec<u32> = offers
+        .iter()
+        .flat_map(|&offer| [900, offer].into_iter().chain([0; 12]))
+        .collect();
+    run_input(&tariff(), 3, &start, &[0, 1, 2].repeat(TARIFF_STEPS))
+}
+
+/// Steps that each process needs to the end.
+const TARIFF_STEPS: usize = 8;

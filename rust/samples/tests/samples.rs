@@ -1,0 +1,139 @@
+//! The files of samples/ are what this package makes, and what their .md files say of them is true.
+
+use finchchaise_model::{check_table, latches, run_team, start, step, Arrival, PROCESS_WORDS};
+use finchchaise_samples::{samples, stocktake, tariff, Sample};
+use std::fs;
+use std::path::PathBuf;
+
+fn folder() -> PathBuf {
+    PathBuf::from(env!("CARGO_MANIFEST_DIR")).join("../../samples")
+}
+
+fn text(name: &str) -> String {
+    fs::read_to_string(folder().join(name)).unwrap_or_else(|error| panic!("{name}: {error}"))
+}
+
+fn answer(sample: &Sample) -> String {
+    match sample.name.ends_with(".table") {
+        true => check_table(&sample.bytes),
+        false => run_team(&sample.bytes),
+    }
+}
+
+#[test]
+fn files_are_as_made() {
+    for sample in samples() {
+        let found = fs::read(folder().join(sample.name)).expect(sample.name);
+        assert_eq!(found, sample.bytes, "{}", sample.name);
+        assert_eq!(text(&format!("{}.out", sample.name)), answer(&sample));
+    }
+}
+
+#[test]
+fn tables_are_accepted_but_t1_and_runs_end_done() {
+    for sample in samples() {
+        let answer = answer(&sample);
+        match sample.name {
+            "t1.table" => assert_eq!(answer, "refused 15 3\n"),
+            name if name.ends_with(".table") => assert_eq!(answer, "accepted\n", "{name}"),
+            name => {
+                assert!(answer.ends_with(" done\n"), "{name}");
+                assert_eq!(answer.matches("done").count(), 1, "{name} has idle turns");
+            }
+        }
+    }
+}
+
+/// The words written `1234ABCD` in a text.
+fn words(text: &str) -> Vec<u32> {
+    text.split('`')
+        .filter(|part| part.len() == 8)
+        .filter_map(|part| u32::from_str_radix(part, 16).ok())
+        .collect()
+}
+
+#[test]
+fn explanations_list_every_word() {
+    for sample in samples() {
+        let Some(name) = sample.name.strip_suffix(".table") else {
+            continue;
+        };
+        let (table, rest) = sample.bytes.as_chunks();
+        let table: Vec<u32> = table.iter().copied().map(u32::from_be_bytes).collect();
+        assert_eq!(words(&text(&format!("{name}.md"))), table, "{name}");
+        assert!(rest.is_empty());
+    }
+}
+
+/// What is printed, in order, with a line `...` where some is left out.
+fn assert_printed(session: &str) {
+    let (command, shown) = session.split_once('\n').expect("a command");
+    let file = command.rsplit('/').next().expect("a file");
+    let printed = text(&format!("{file}.out"));
+    let mut left = &printed[..];
+    for part in shown.split("...\n") {
+        let begin = left
+            .find(part)
+            .unwrap_or_else(|| panic!("{command}: {part}"));
+        left = &left[begin + part.len()..];
+    }
+    assert!(left.is_empty(), "{command} prints more");
+}
+
+#[test]
+fn explanations_show_what_is_printed() {
+    let mut sessions = 0;
+    for name in ["t1.md", "t2.md", "stocktake.md", "tariff.md"] {
+        let text = text(name);
+        for session in text
+            .split("```\n")
+            .filter(|part| part.starts_with("$ ./site"))
+        {
+            assert_printed(session);
+            sessions += 1;
+        }
+    }
+    assert_eq!(sessions, samples().len());
+}
+
+/// Latches 0 and 1 of every process after a run, given its start words and turns.
+fn shown(table: &[u8], start_words: &[u32], count: usize, turns: usize) -> Vec<(u32, u32)> {
+    let mut state = vec![0; count * PROCESS_WORDS];
+    let mut arrivals = vec![Arrival::default(); count];
+    start(table, count as u32, start_words, &mut state, &mut arrivals).expect("a start");
+    for turn in 0..count * turns {
+        step(table, &mut state, &mut arrivals, (turn % count) as u32).expect("a step");
+    }
+    let latch = |process, latch: usize| latches(&state, process)[latch];
+    (0..count)
+        .map(|process| (latch(process, 0), latch(process, 1)))
+        .collect()
+}
+
+/// The start words within a run's input.
+fn start_words(run: &str, table: &[u8], words: usize) -> Vec<u32> {
+    let input = fs::read(folder().join(run)).expect(run);
+    let (begin, _) = input[8 + table.len()..].as_chunks();
+    begin[..words]
+        .iter()
+        .copied()
+        .map(u32::from_be_bytes)
+        .collect()
+}
+
+#[test]
+fn latches_hold_what_is_said() {
+    let given = start_words("stocktake.run", &stocktake(), 2 * 16);
+    assert_eq!(shown(&stocktake(), &given, 2, 77), [(8, 0); 2]);
+    let given = start_words("tariff.run", &tariff(), 3 * 14);
+    assert_eq!(shown(&tariff(), &given, 3, 8), [(1250, 1); 3]);
+}
+
+#[test]
+fn tariff_by_own_condition_is_refused() {
+    let mut table = tariff();
+    // Node 4 asks for variable 1.
+    let node_4 = 4 * (2 + 1 + 4);
+    table[node_4..node_4 + 4].copy_from_slice(&0x0804_0000_u32.to_be_bytes());
+    assert_eq!(check_table(&table), "refused 15 12\n");
+}
