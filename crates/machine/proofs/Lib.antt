@@ -1,3 +1,4 @@
+-- Laws that several proofs of this crate use.
 pub mod NumberLaws
 pub mod ReadLaws
 pub mod ExpressionLaws

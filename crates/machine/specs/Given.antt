@@ -1,4 +1,5 @@
--- What the functions on one process's words are given, and the operator behind a kind.
+-- What the functions on one process's words and on the roll are given: the facts that the questions of a start and a step have
+-- shown, and the operator, collective and record that the code's numbers stand for.
 use mathlib.Core.List.{List, [], _∷_}
 use mathlib.Core.Bool.{Bool, true, cond, _&&_}
 use mathlib.Core.Path.{_≡_}
@@ -62,7 +63,7 @@ pub record Turn (table : List ℕ) (header : Header) (words : List ℕ) (own cou
 unfoldable pub collectiveOf : Node → Collective
 collectiveOf m = cond (eqb (m .kind) 24) (broadcast (m .a) (m .b) (m .c)) (cond (eqb (m .kind) 25) (exchange (m .a)) barrier)
 
--- the words that a status is read from
+-- the status that a word stands for; question 23 refuses a word above 2 before any is read
 abbrev pub statusOf : ℕ → Status
 statusOf word = cond (eqb word running) Running (cond (eqb word waiting) Waiting Ended)
 

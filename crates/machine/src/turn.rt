@@ -117,19 +117,19 @@ fn meet(
     let n = top(process_at(state, p));
     arrive_in(table, header, state, roll, count, p, node);
     let processes = count as usize;
+    let before = team_status(roll, processes);
     if !all_at_one_node(roll, processes) {
-        let team = team_status(roll, processes);
         return Stepped::Taken(Answer {
             event: Event::Arrived(n),
-            team,
+            team: before,
         });
     }
     complete(state, roll, processes, node);
     release(state, roll, processes);
-    let team = team_status(roll, processes);
+    let after = team_status(roll, processes);
     Stepped::Taken(Answer {
         event: Event::Completed(n),
-        team,
+        team: after,
     })
 }
 

@@ -15,7 +15,7 @@ atMost n limit = cond (ltb n limit) n limit
 -- the words of a roll of records
 unfoldable pub rollWords : List Arrival → List ℕ
 rollWords [] = []
-rollWords (arrival ∷ roll) = rollWords roll ++ arrivalWords arrival
+rollWords (arrival ∷ roll) = arrivalWords arrival ++ rollWords roll
 
 -- A roll has at most 16 records: of a longer one 17 are lent to the core, which refuses their number as it would any other.
 abbrev pub lentRecords : ℕ → ℕ

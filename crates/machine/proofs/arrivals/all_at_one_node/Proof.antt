@@ -1,3 +1,4 @@
+-- `machine::arrivals::all_at_one_node` meets its contract. The loop has passed only processes that wait at process 0's node.
 use Rattle.machine.proofs.LoopLaws.{passed-none, passed-more}
 use Rattle.rules.proofs.ChoiceLaws.{Passed, all-true}
 use Rattle.rules.proofs.StatusLaws.{one-node-not-waiting, one-node-elsewhere}

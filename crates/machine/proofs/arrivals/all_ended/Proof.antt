@@ -1,3 +1,4 @@
+-- `machine::arrivals::all_ended` meets its contract. The loop has passed only processes that have ended.
 use Rattle.machine.proofs.LoopLaws.{passed-none, passed-more}
 use Rattle.rules.proofs.ChoiceLaws.{Passed, all-true, all-false}
 use Rattle.rules.specs.Arrivals.{ended, statusAt}

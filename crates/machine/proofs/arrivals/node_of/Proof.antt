@@ -1,3 +1,4 @@
+-- `machine::arrivals::node_of` meets its contract.
 use Rattle.rules.specs.Arrivals.{arrivalNode}
 use mathlib.Core.Path.{refl}
 use borrow.Author.Needs.{needs}

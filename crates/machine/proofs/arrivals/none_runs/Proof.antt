@@ -1,3 +1,4 @@
+-- `machine::arrivals::none_runs` meets its contract. The loop has passed only processes that do not run.
 use Rattle.machine.proofs.LoopLaws.{passed-none, passed-more}
 use Rattle.rules.proofs.ChoiceLaws.{Passed, all-true, all-false}
 use Rattle.rules.specs.Arrivals.{running, statusAt}

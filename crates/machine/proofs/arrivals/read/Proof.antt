@@ -1,3 +1,4 @@
+-- `machine::arrivals::read` meets its contract.
 use Rattle.machine.specs.Given.{arrivalAt}
 use borrow.Author.Needs.{needs}
 use Rattle.machine.proofs.arrivals.read.Statement.{statement}

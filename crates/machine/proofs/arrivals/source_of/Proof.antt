@@ -1,3 +1,4 @@
+-- `machine::arrivals::source_of` meets its contract.
 use Rattle.rules.specs.Arrivals.{arrivalSource}
 use mathlib.Core.Path.{refl}
 use borrow.Author.Needs.{needs}

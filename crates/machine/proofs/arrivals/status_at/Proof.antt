@@ -1,3 +1,4 @@
+-- `machine::arrivals::status_at` meets its contract.
 use Rattle.rules.specs.Arrivals.{statusAt}
 use mathlib.Core.Path.{refl}
 use borrow.Author.Needs.{needs}

@@ -1,3 +1,4 @@
+-- `machine::arrivals::status_of` meets its contract.
 use borrow.Author.Tests.{eq-eqb, ne-eqb}
 use Rattle.machine.proofs.arrivals.status_of.Statement.{statement}
 use Rattle.machine.proofs.arrivals.status_of.Tie as tie

@@ -1,3 +1,4 @@
+-- `machine::arrivals::team_status` meets its contract.
 use Rattle.rules.specs.Arrivals.{teamStatus}
 use borrow.Author.Tests.{not-true, not-false}
 use mathlib.Core.Path.{sym, _∙_}

@@ -1,3 +1,4 @@
+-- `machine::arrivals::value_of` meets its contract.
 use Rattle.rules.specs.Arrivals.{arrivalValue}
 use mathlib.Core.Path.{refl}
 use borrow.Author.Needs.{needs}

@@ -1,3 +1,4 @@
+-- `machine::arrivals::write` meets its contract.
 use Rattle.rules.specs.Arrivals.{withArrival}
 use native.Mathlib.Numerals.{towards-suc}
 use native.Mathlib.Omega.{arith}

@@ -1,3 +1,4 @@
+-- `machine::collective::arrival_of` meets its contract.
 use Rattle.machine.proofs.CollectiveLaws.{is-barrier, is-broadcast, is-exchange, broadcast-fits, exchange-fits}
 use Rattle.machine.proofs.StatementLaws.{top-to}
 use Rattle.machine.proofs.ArrivalMoves.{arrive-running}

@@ -1,3 +1,5 @@
+-- `machine::collective::complete` meets its contract.
+-- The loop's state has the collective completed for the processes passed; the others' words are as they were.
 use Rattle.machine.proofs.LentLaws.{lent, back}
 use Rattle.machine.specs.Given.{collectiveOf}
 use Rattle.rules.proofs.StackLaws.{popped-length, received-length}

@@ -1,3 +1,4 @@
+-- `machine::collective::complete_one` meets its contract.
 use Rattle.machine.proofs.StackedLaws.{stacked-by}
 use Rattle.machine.proofs.CollectiveLaws.{stores-low}
 use Rattle.rules.proofs.StackLaws.{received-length, received-depth}

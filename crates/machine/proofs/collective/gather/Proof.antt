@@ -1,3 +1,4 @@
+-- `machine::collective::gather` meets its contract. The loop's words are those gathered from the processes passed.
 use Rattle.rules.proofs.StackLaws.{gathered-length}
 use Rattle.rules.specs.Collective.{gatheredFrom}
 use lib.ListN.{length}

@@ -1,3 +1,4 @@
+-- `machine::collective::receive` meets its contract.
 use Rattle.machine.proofs.CollectiveLaws.{is-barrier, is-broadcast, is-exchange}
 use Rattle.rules.specs.Collective.{received}
 use native.Mathlib.Omega.{arith}

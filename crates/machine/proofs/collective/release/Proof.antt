@@ -1,3 +1,5 @@
+-- `machine::collective::release` meets its contract.
+-- The loop's roll has the records of the processes passed released; the others still wait.
 use Rattle.rules.proofs.ProcessLaws.{process-at}
 use Rattle.rules.proofs.ArrivalLaws.{each-arrival-length, each-arrival-kept}
 use Rattle.rules.specs.Process.{processAt, depth}

@@ -1,3 +1,4 @@
+-- `machine::collective::release_one` meets its contract.
 use Rattle.machine.proofs.ArrivalMoves.{waiting-at, resume-waiting, end-waiting}
 use Rattle.rules.specs.Arrivals.{withArrival, end, resume}
 use borrow.Author.Tests.{eq-eqb, ne-eqb}

@@ -1,4 +1,4 @@
--- The measure is the node number.
+-- `machine::evaluation::evaluate` meets its contract. The measure is the node number.
 use mathlib.Core.Bool.{true}
 use mathlib.Core.Path.{_≡_, refl, sym, _∙_}
 use native.Mathlib.Omega.{arith}

@@ -1,3 +1,4 @@
+-- `machine::evaluation::apply` meets its contract.
 use native.Mathlib.Omega.{arith}
 use Rattle.machine.proofs.NumberLaws.{operator-both}
 use Rattle.machine.specs.Given.{operatorOf}

@@ -1,3 +1,4 @@
+-- `machine::evaluation::both` meets its contract.
 use Rattle.rules.specs.Evaluation.{applied}
 use borrow.Author.Tests.{eq-eqb, ne-eqb}
 use Rattle.machine.proofs.evaluation.both.Statement.{statement}

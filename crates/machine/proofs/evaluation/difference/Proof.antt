@@ -1,3 +1,4 @@
+-- `machine::evaluation::difference` meets its contract.
 use Rattle.rules.specs.Evaluation.{applied}
 use native.Mathlib.Omega.{arith}
 use borrow.Author.Needs.{needs}

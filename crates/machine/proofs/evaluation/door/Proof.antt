@@ -1,3 +1,4 @@
+-- `machine::evaluation::door` meets its contract.
 use borrow.Author.Tests.{lt-ltb, le-ltb}
 use borrow.Author.Needs.{needs}
 use Rattle.machine.proofs.evaluation.door.Statement.{statement}

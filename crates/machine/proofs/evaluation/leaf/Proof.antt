@@ -1,3 +1,4 @@
+-- `machine::evaluation::leaf` meets its contract.
 use Rattle.rules.specs.Table.{expressionOf}
 use Rattle.rules.specs.Evaluation.{valueOf}
 use mathlib.Core.Path.{_≡_}

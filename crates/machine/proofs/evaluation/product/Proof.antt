@@ -1,3 +1,4 @@
+-- `machine::evaluation::product` meets its contract.
 use Rattle.machine.proofs.NumberLaws.{product-fits}
 use Rattle.rules.specs.Evaluation.{applied}
 use borrow.Author.Needs.{needs}

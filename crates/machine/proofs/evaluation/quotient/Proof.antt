@@ -1,3 +1,4 @@
+-- `machine::evaluation::quotient` meets its contract.
 use Rattle.rules.specs.Evaluation.{applied}
 use borrow.Author.Tests.{eq-eqb, ne-eqb}
 use borrow.Author.Needs.{needs}

@@ -1,3 +1,5 @@
+-- `machine::process::advance` meets its contract.
+-- Each arm's function asks what a well-formed table says of the parts of that kind.
 use Rattle.machine.proofs.StatementLaws.{nothing-of, assign-of, sequence-of, branch-of, loop-of, call-of, latch-of, top-statement, top-from, turn-assign, turn-sequence, turn-branch, turn-loop, turn-repeat, turn-call, turn-body, turn-latch}
 use Rattle.rules.specs.Process.{advanced}
 use native.Mathlib.Omega.{arith}

@@ -1,3 +1,4 @@
+-- `machine::process::assign` meets its contract.
 use Rattle.machine.proofs.StackedLaws.{stacked-set}
 use Rattle.rules.specs.Process.{advanced}
 use lib.ListN.{length-set}

@@ -1,3 +1,4 @@
+-- `machine::process::branch` meets its contract.
 use Rattle.rules.specs.Process.{advanced}
 use borrow.Author.Tests.{eq-eqb, ne-eqb}
 use borrow.Author.Needs.{needs}

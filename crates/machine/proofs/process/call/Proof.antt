@@ -1,3 +1,4 @@
+-- `machine::process::call` meets its contract.
 use borrow.Author.Needs.{needs}
 use Rattle.machine.proofs.process.call.Statement.{statement}
 use Rattle.machine.proofs.process.call.Tie as tie

@@ -1,3 +1,4 @@
+-- `machine::process::latch` meets its contract.
 use Rattle.machine.proofs.StackedLaws.{stacked-latch}
 use Rattle.rules.specs.Process.{advanced}
 use borrow.Author.Needs.{needs}

@@ -1,3 +1,4 @@
+-- `machine::process::pop` meets its contract.
 use Rattle.rules.specs.Process.{depth, popped}
 use native.Mathlib.Omega.{arith}
 use mathlib.Core.Path.{refl}

@@ -1,3 +1,4 @@
+-- `machine::process::process_at` meets its contract.
 use Rattle.rules.specs.Process.{processAt}
 use native.Mathlib.Omega.{arith}
 use Prim.Native.Nat.{_+_, _-_, _*_}

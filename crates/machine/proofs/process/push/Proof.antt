@@ -1,3 +1,4 @@
+-- `machine::process::push` meets its contract.
 use Rattle.rules.specs.Process.{depth, pushed}
 use native.Mathlib.Omega.{arith}
 use mathlib.Core.Path.{refl}

@@ -1,3 +1,4 @@
+-- `machine::process::repeat` meets its contract.
 use Rattle.rules.specs.Process.{advanced, needsPlace}
 use borrow.Author.Tests.{eq-eqb, ne-eqb}
 use borrow.Author.Needs.{needs}

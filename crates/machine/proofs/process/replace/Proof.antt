@@ -1,3 +1,4 @@
+-- `machine::process::replace` meets its contract.
 use Rattle.rules.specs.Process.{depth, replaced}
 use native.Mathlib.Omega.{arith}
 use mathlib.Core.Path.{refl}

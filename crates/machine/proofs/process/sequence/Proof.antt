@@ -1,3 +1,4 @@
+-- `machine::process::sequence` meets its contract.
 use native.Mathlib.Omega.{arith}
 use Rattle.rules.proofs.StackLaws.{replaced-length, replaced-depth}
 use mathlib.Core.Path.{_∙_}

@@ -1,3 +1,4 @@
+-- `machine::process::top` meets its contract.
 use Rattle.rules.specs.Process.{depth, top}
 use native.Mathlib.Omega.{arith}
 use mathlib.Core.Path.{refl}

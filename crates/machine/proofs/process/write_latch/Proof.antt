@@ -1,3 +1,4 @@
+-- `machine::process::write_latch` meets its contract.
 use borrow.Author.Tests.{lt-ltb, le-ltb}
 use borrow.Author.Needs.{needs}
 use Rattle.machine.proofs.process.write_latch.Statement.{statement}

@@ -1,3 +1,4 @@
+-- `machine::questions::fields_zero` meets its contract.
 use Rattle.rules.specs.Step.{fieldsZero}
 use borrow.Author.Tests.{eq-eqb, ne-eqb}
 use mathlib.Core.Path.{sym, _∙_}

@@ -1,3 +1,4 @@
+-- `machine::questions::first_unfit` meets its contract. The loop has passed only processes that question 23 holds of.
 use Rattle.machine.proofs.LoopLaws.{passed-none, passed-more}
 use Rattle.rules.proofs.ProcessLaws.{process-length}
 use Rattle.rules.proofs.ChoiceLaws.{Passed, first-at, first-none}

@@ -1,3 +1,4 @@
+-- `machine::questions::is_statement` meets its contract.
 use Rattle.machine.proofs.QuestionLaws.{statement-past}
 use Rattle.machine.proofs.ReadLaws.{readable, read-formed, header-nodes}
 use Rattle.rules.specs.WellFormed.{isStatement}

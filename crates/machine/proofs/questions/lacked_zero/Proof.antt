@@ -1,3 +1,4 @@
+-- `machine::questions::lacked_zero` meets its contract.
 use Rattle.machine.proofs.StatementLaws.{alone-of, barrier-of, broadcast-of, exchange-of}
 use Rattle.rules.specs.Step.{lackedZero}
 use borrow.Author.Tests.{eq-eqb, ne-eqb}

@@ -1,3 +1,4 @@
+-- `machine::questions::needs_place` meets its contract.
 use Rattle.machine.proofs.QuestionLaws.{needs-other}
 use Rattle.machine.proofs.StatementLaws.{top-formed, top-below, top-statement, top-to, sequence-of, loop-of, loop-fits}
 use Rattle.rules.specs.Table.{statementAt}

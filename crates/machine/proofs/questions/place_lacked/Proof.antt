@@ -1,3 +1,4 @@
+-- `machine::questions::place_lacked` meets its contract.
 use Rattle.machine.proofs.TeamLaws.{run-stacked, run-statement, run-topped}
 use Rattle.machine.proofs.StatementLaws.{statement-below}
 use Rattle.machine.proofs.ReadLaws.{readable, read-formed}

@@ -1,3 +1,4 @@
+-- `machine::questions::process_asked` meets its contract.
 use Rattle.rules.proofs.ChoiceLaws.{all-passed}
 use Rattle.rules.specs.Step.{processFits}
 use borrow.Author.Tests.{lt-ltb, le-ltb}

@@ -1,3 +1,4 @@
+-- `machine::questions::record_fits` meets its contract.
 use lib.ListN.{getD}
 use Prim.Native.Nat.{_≤_}
 use Rattle.machine.proofs.QuestionLaws.{record-empty, top-fits}

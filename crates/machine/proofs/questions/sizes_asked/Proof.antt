@@ -1,3 +1,4 @@
+-- `machine::questions::sizes_asked` meets its contract.
 use Rattle.rules.specs.Step.{processesIn}
 use borrow.Author.Tests.{eq-eqb, ne-eqb, lt-leb, le-leb}
 use borrow.Author.Needs.{needs}

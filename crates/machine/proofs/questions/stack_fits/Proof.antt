@@ -1,3 +1,4 @@
+-- `machine::questions::stack_fits` meets its contract. The loop has passed only entries that are statements.
 use Rattle.machine.proofs.LoopLaws.{passed-none, passed-more}
 use Rattle.rules.proofs.ChoiceLaws.{Passed, all-true, all-false}
 use Rattle.rules.specs.WellFormed.{isStatement}

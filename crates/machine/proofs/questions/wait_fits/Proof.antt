@@ -1,3 +1,4 @@
+-- `machine::questions::wait_fits` meets its contract.
 use Rattle.machine.proofs.StatementLaws.{statement-below, kind-to}
 use Rattle.machine.proofs.ReadLaws.{readable, read-formed}
 use Rattle.rules.specs.Table.{nodeAt, statementAt, statementOf, onCollective}

@@ -1,3 +1,4 @@
+-- `machine::questions::words_fit` meets its contract.
 use Rattle.rules.specs.Process.{depth}
 use borrow.Author.Tests.{lt-leb, le-leb, not-true, not-false}
 use mathlib.Core.Path.{sym, _∙_}

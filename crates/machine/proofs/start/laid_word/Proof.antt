@@ -1,3 +1,4 @@
+-- `machine::start::laid_word` meets its contract.
 use borrow.Author.Tests.{lt-ltb, le-ltb, eq-eqb, ne-eqb}
 use borrow.Author.Needs.{needs}
 use Rattle.machine.proofs.start.laid_word.Statement.{statement}

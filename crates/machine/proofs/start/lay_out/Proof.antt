@@ -1,3 +1,4 @@
+-- `machine::start::lay_out` meets its contract. The words passed are laid out.
 use Rattle.machine.specs.Layout.{laidWord}
 use lib.Seq.{getD-set-same, getD-set-other}
 use lib.ListN.{length, getD, length-set}

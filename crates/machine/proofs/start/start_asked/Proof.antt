@@ -1,3 +1,4 @@
+-- `machine::start::start_asked` meets its contract.
 use Rattle.machine.proofs.StartLaws.{given-fits}
 use Rattle.table.specs.Header.{headerOf}
 use Rattle.rules.proofs.Formed.{formed}

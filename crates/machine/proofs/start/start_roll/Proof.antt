@@ -1,3 +1,4 @@
+-- `machine::start::start_roll` meets its contract. The records passed are running.
 use Rattle.rules.proofs.ArrivalLaws.{each-arrival-length}
 use Rattle.rules.specs.Start.{startRoll}
 use Rattle.rules.specs.Arrivals.{eachArrival, runningRecord}

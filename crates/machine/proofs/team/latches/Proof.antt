@@ -1,3 +1,4 @@
+-- `machine::team::latches` meets its contract.
 use Rattle.rules.specs.Start.{latchesOf}
 use borrow.Author.Tests.{eq-eqb, ne-eqb, lt-ltb, le-ltb}
 use native.Mathlib.Omega.{arith}

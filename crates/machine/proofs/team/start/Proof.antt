@@ -1,3 +1,4 @@
+-- `machine::team::start` meets its contract.
 use Rattle.machine.proofs.VerdictSteps.{refused-form}
 use mathlib.Core.Path.{sym, _∙_}
 use borrow.Author.Needs.{needs}

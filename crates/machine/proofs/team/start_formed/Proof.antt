@@ -1,3 +1,4 @@
+-- `machine::team::start_formed` meets its contract.
 use Rattle.machine.proofs.VerdictSteps.{refused-asked, startable, started-rolled, taken-start}
 use mathlib.Core.Path.{sym, _∙_}
 use borrow.Author.Needs.{needs}

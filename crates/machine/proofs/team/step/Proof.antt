@@ -1,3 +1,4 @@
+-- `machine::team::step` meets its contract.
 use Rattle.machine.proofs.VerdictSteps.{denied-form}
 use mathlib.Core.Path.{sym, _∙_}
 use borrow.Author.Needs.{needs}

@@ -1,3 +1,4 @@
+-- `machine::team::step_formed` meets its contract.
 use Rattle.machine.proofs.VerdictSteps.{denied-sizes}
 use mathlib.Core.Path.{sym, _∙_}
 use borrow.Author.Needs.{needs}

@@ -1,3 +1,4 @@
+-- `machine::team::step_sized` meets its contract.
 use Rattle.table.specs.Header.{headerOf}
 use Rattle.machine.proofs.VerdictSteps.{denied-process, taken-step, team-of, ready-of}
 use Rattle.rules.proofs.Formed.{formed}

@@ -1,3 +1,4 @@
+-- `machine::turn::move_on` meets its contract.
 use Rattle.machine.proofs.OutcomeLaws.{moved-on, finished}
 use Rattle.machine.proofs.LentLaws.{depth-with}
 use Rattle.machine.proofs.ArrivalMoves.{running-at, end-running}

@@ -1,3 +1,4 @@
+-- `machine::turn::run` meets its contract.
 use Rattle.machine.proofs.OutcomeLaws.{run-alone, run-meets}
 use Rattle.machine.proofs.TeamLaws.{ready-stacked, ready-statement, ready-topped, ready-turn}
 use Rattle.machine.proofs.StatementLaws.{statement-below, top-to}

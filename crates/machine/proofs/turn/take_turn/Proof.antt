@@ -1,3 +1,4 @@
+-- `machine::turn::take_turn` meets its contract.
 use Rattle.machine.proofs.OutcomeLaws.{taken-run, taken-waiting, taken-ended}
 use mathlib.Core.Path.{sym, _∙_}
 use borrow.Author.Needs.{needs}
