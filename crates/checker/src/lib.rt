@@ -1,7 +1,7 @@
 // The checker: question 1, then 2 to 12, then 13 to 17, in lent scratch.
 ghost use mathlib.Core.Path.{_≡_};
-ghost use lib.ListN.{replicate};
-ghost use Rattle.rules.specs.Acceptance.{judged, checked, checkedScratch};
+ghost use lib.ListN.{length, replicate};
+ghost use Rattle.rules.specs.Acceptance.{scratchWords, judged, checked, checkedScratch};
 ghost use Rattle.rules.specs.Answers.{_then_};
 ghost use Rattle.rules.specs.WellFormed.{wellFormed};
 ghost use Rattle.rules.specs.declared.Verdict.the-variants.{Accepted};
@@ -9,6 +9,7 @@ ghost use Rattle.checker.specs.Planes.{planeWords, usedWords};
 use crate::judgement::judge_nodes;
 use crate::questions::ask;
 use rules::Verdict;
+use scan::passes;
 use table::marks::clear;
 use table::shape::refused;
 use table::well_formed;
@@ -36,7 +37,7 @@ fn judge(table: &[u8], planes: &mut [u32]) -> Verdict
     ask(table, counts, planes)
 }
 
-// Questions 2 to 17.
+// Questions 2 to 17, one by one.
 fn answer(table: &[u8], words: &mut [u32]) -> Verdict
     requires { ⌜ now words ≡ replicate usedWords 0 ⌝ }
     ensures { λ r. ⌜ r ≡ (wellFormed (now (table .entry)) then judged (now (table .entry))) ⌝ }
@@ -48,6 +49,22 @@ fn answer(table: &[u8], words: &mut [u32]) -> Verdict
     }
 }
 
+// Questions 2 to 17: one pass tells an accepted table, and any other is asked question by question.
+fn answer_in(table: &[u8], words: &mut [u32]) -> Verdict
+    requires { ⌜ length (now words) ≡ scratchWords ⌝ }
+    ensures { λ r. ⌜ (r ≡ (wellFormed (now (table .entry)) then judged (now (table .entry))))
+        × (now (words .exit) ≡ replicate scratchWords 0) ⌝ }
+{
+    clear(words);
+    if passes(table, words, true) {
+        return Verdict::Accepted;
+    }
+    clear(words);
+    let verdict = answer(table, &mut words[0..USED_WORDS]);
+    clear(words);
+    verdict
+}
+
 // The scratch may hold anything before.
 pub fn check(table: &[u8], scratch: &mut [u32]) -> Verdict
     ensures { λ r. ⌜ (r ≡ checked (now (table .entry)) (now (scratch .entry)))
@@ -56,8 +73,5 @@ pub fn check(table: &[u8], scratch: &mut [u32]) -> Verdict
     if scratch.len() < SCRATCH_WORDS {
         return refused(1, 0);
     }
-    clear(&mut scratch[0..SCRATCH_WORDS]);
-    let verdict = answer(table, &mut scratch[0..USED_WORDS]);
-    clear(&mut scratch[0..USED_WORDS]);
-    verdict
+    answer_in(table, &mut scratch[0..SCRATCH_WORDS])
 }

@@ -17,7 +17,7 @@ use crate::start::start_state;
 use crate::turn::take_turn;
 use rules::Stepped;
 use rules::Verdict;
-use table::well_formed;
+use scan::well_formed;
 use table::words::header;
 
 fn start_formed(
@@ -55,8 +55,7 @@ pub fn start(
         (started (now (table .entry)) processes (now (words .entry)) (now (state .entry)) (now (roll .entry)))
         r (now (state .exit)) (now (roll .exit)) ⌝ }
 {
-    let mut marks = [0u32; 8];
-    let formed = well_formed(table, &mut marks);
+    let formed = well_formed(table);
     match formed {
         Verdict::Refused(refusal) => Verdict::Refused(refusal),
         Verdict::Accepted => start_formed(table, processes, words, state, roll),
@@ -96,8 +95,7 @@ pub fn step(table: &[u8], state: &mut [u32], roll: &mut [u32], process: u32) -> 
     ensures { λ r. ⌜ Gives (stepped (now (table .entry)) (now (state .entry)) (now (roll .entry)) process)
         r (now (state .exit)) (now (roll .exit)) ⌝ }
 {
-    let mut marks = [0u32; 8];
-    let formed = well_formed(table, &mut marks);
+    let formed = well_formed(table);
     match formed {
         Verdict::Refused(refusal) => Stepped::Refused(refusal),
         Verdict::Accepted => step_formed(table, state, roll, process),

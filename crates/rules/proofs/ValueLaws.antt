@@ -90,6 +90,28 @@ module _ (table : List ℕ) (n : ℕ) (f g : ℕ → Bool) (same : (a : ℕ) →
   effect-parts (latch a b) h = refl
   effect-parts (collective k) h = refl
 
+-- a node whose parts fit is judged by them
+module _ (table : List ℕ) (n : ℕ) where
+  pub single-here : expressionFits table n (expressionAt table n) ≡ true
+      → single table n ≡ singleOf table (single table) (expressionAt table n)
+  unfolding single atNode
+  single-here fits =
+      single-parts table n (λ a. getD (below (λ earlier k. singleOf table (λ i. getD earlier i false) (expressionAt table k)) n) a false)
+      (single table)
+      (λ a h. below-at (λ earlier k. singleOf table (λ i. getD earlier i false) (expressionAt table k)) n a false h)
+      (expressionAt table n)
+      fits
+
+  pub effect-here : statementFits table n (statementAt table n) ≡ true
+      → effect table n ≡ effectOf table (effect table) (statementAt table n)
+  unfolding effect atNode
+  effect-here fits =
+      effect-parts table n (λ a. getD (below (λ earlier k. effectOf table (λ i. getD earlier i false) (statementAt table k)) n) a false)
+      (effect table)
+      (λ a h. below-at (λ earlier k. effectOf table (λ i. getD earlier i false) (statementAt table k)) n a false h)
+      (statementAt table n)
+      fits
+
 module _ (table : List ℕ) (formed : Formed table) where
   pub value-at : (env : Environment) (n : ℕ) → value table env n ≡ valueOf env (value table env) (expressionAt table n)
   unfolding value atNode
@@ -101,19 +123,7 @@ module _ (table : List ℕ) (formed : Formed table) where
       (formed .expression-fits n)
 
   pub single-at : (n : ℕ) → single table n ≡ singleOf table (single table) (expressionAt table n)
-  unfolding single atNode
-  single-at n =
-      single-parts table n (λ a. getD (below (λ earlier k. singleOf table (λ i. getD earlier i false) (expressionAt table k)) n) a false)
-      (single table)
-      (λ a h. below-at (λ earlier k. singleOf table (λ i. getD earlier i false) (expressionAt table k)) n a false h)
-      (expressionAt table n)
-      (formed .expression-fits n)
+  single-at n = single-here table n (formed .expression-fits n)
 
   pub effect-at : (n : ℕ) → effect table n ≡ effectOf table (effect table) (statementAt table n)
-  unfolding effect atNode
-  effect-at n =
-      effect-parts table n (λ a. getD (below (λ earlier k. effectOf table (λ i. getD earlier i false) (statementAt table k)) n) a false)
-      (effect table)
-      (λ a h. below-at (λ earlier k. effectOf table (λ i. getD earlier i false) (statementAt table k)) n a false h)
-      (statementAt table n)
-      (formed .statement-fits n)
+  effect-at n = effect-here table n (formed .statement-fits n)
