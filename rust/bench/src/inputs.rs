@@ -14,7 +14,7 @@ pub fn table(nodes: usize, procedures: usize) -> Vec<u8> {
         let share = nodes * number / procedures - table.nodes.len();
         let body = match number == procedures && share > 2 {
             true => endless(&mut table, share),
-            false => filled(&mut table, share),
+            false => filled(&mut table, share, number),
         };
         table.procedure(body, true);
     }
@@ -23,12 +23,12 @@ pub fn table(nodes: usize, procedures: usize) -> Vec<u8> {
 
 fn endless(table: &mut Builder, nodes: usize) -> u32 {
     let condition = table.count();
-    let body = filled(table, nodes - 2);
+    let body = filled(table, nodes - 2, 0);
     table.repeat(condition, body)
 }
 
-/// A statement of just so many nodes.
-fn filled(table: &mut Builder, nodes: usize) -> u32 {
+/// A statement of just so many nodes, which begins with the piece whose turn it is.
+fn filled(table: &mut Builder, nodes: usize, turn: usize) -> u32 {
     let called = table.procedures.len() as u32;
     match nodes {
         1 if called > 0 => table.call(called - 1),
@@ -38,17 +38,17 @@ fn filled(table: &mut Builder, nodes: usize) -> u32 {
         4 => table.increase(OWN),
         _ => {
             let before = table.nodes.len();
-            let first = piece(table, nodes - 2);
+            let first = piece(table, nodes - 2, turn);
             let taken = table.nodes.len() - before;
-            let second = filled(table, nodes - 1 - taken);
+            let second = filled(table, nodes - 1 - taken, turn + 1);
             table.sequence(first, second)
         }
     }
 }
 
 /// One of six statements in turn, of at most `most` nodes, which is 3 or more.
-fn piece(table: &mut Builder, most: usize) -> u32 {
-    match table.nodes.len() % 6 {
+fn piece(table: &mut Builder, most: usize, turn: usize) -> u32 {
+    match turn % 6 {
         0 if most >= 4 => table.increase(OWN),
         1 if most >= 6 => choose(table),
         2 => exchange(table),
