@@ -1,24 +1,19 @@
 -- What a well-formed table and the planes say of a node by its kind: its fields are in range, and the bits of its parts are
 -- what the definitions judge of them.
-use mathlib.Core.Bool.{true, _&&_}
+use mathlib.Core.Bool.{true}
 use mathlib.Core.List.{List}
-use mathlib.Core.Path.{_≡_, sym, _∙_, ap}
-use Prim.Native.Nat.{ℕ, zero, suc, _+_, _-_, _*_, _≤_, _<_}
+use mathlib.Core.Path.{_≡_}
+use Prim.Native.Nat.{ℕ, suc, _+_, _*_, _≤_, _<_}
 use native.Mathlib.Decide.{decLt}
 use native.Mathlib.Omega.{arith}
-use lib.Dec.{ltb}
 use lib.ListN.{length}
-use borrow.Author.Tests.{ltb-true}
 use Rattle.rules.specs.declared.Node.{Node}
 use Rattle.rules.specs.Judgement.{single, effect}
-use Rattle.rules.specs.Table.{variables, procedures, nodeAt, expressionOf, statementOf, expressionAt, statementAt}
-use Rattle.rules.specs.Table.{Operator, sum, difference, product, quotient, less, equal, both}
-use Rattle.rules.specs.Table.{Expression, variable, slot, operation}
-use Rattle.rules.specs.Table.{Statement, assign, sequence, branch, loop, call, collective}
-use Rattle.rules.specs.Table.{Collective, barrier, broadcast, exchange}
-use Rattle.rules.specs.WellFormed.{expressionPart, statementPart, expressionFits, collectiveFits, statementFits}
-use Rattle.rules.proofs.AnswerLaws.{both-left, both-right}
+use Rattle.rules.specs.Table.{statementOf, collective, Collective, barrier, broadcast, exchange}
+use Rattle.rules.specs.WellFormed.{expressionPart, statementPart}
 use Rattle.rules.proofs.Formed.{Formed, formed}
+use Rattle.rules.proofs.KindLaws.{barrier-of, broadcast-of, exchange-of, variable-field, first-part, second-part}
+use Rattle.rules.proofs.KindLaws.{assign-fields, sequence-fields, branch-fields, loop-fields, call-field, broadcast-fields}
 use Rattle.rules.proofs.ValueLaws.{expression-part-below, expression-part-sort, statement-part-below, statement-part-sort}
 use Rattle.checker.specs.Planes.{planeWords, singleBit, effectBit, Placed}
 
@@ -26,39 +21,19 @@ use Rattle.checker.specs.Planes.{planeWords, singleBit, effectBit, Place
 pub past : (k kind : ℕ) → k ≤ kind → (kind ≡ k → ⊥) → suc k ≤ kind
 past k kind h other = omega arith
 
--- kinds 6 to 12
-pub record Operation (m : Node) : Type 0 where
-  pub operator : Operator
-  pub is : expressionOf m ≡ operation operator (m .a) (m .b)
-
-operation-at : (m : Node) (j : ℕ) → m .kind ≡ 6 + j → j < 7 → Operation m
-unfolding expressionOf
-operation-at m zero e h = record { operator = sum; is = rw e }
-operation-at m (suc zero) e h = record { operator = difference; is = rw e }
-operation-at m (suc (suc zero)) e h = record { operator = product; is = rw e }
-operation-at m (suc (suc (suc zero))) e h = record { operator = quotient; is = rw e }
-operation-at m (suc (suc (suc (suc zero)))) e h = record { operator = less; is = rw e }
-operation-at m (suc (suc (suc (suc (suc zero))))) e h = record { operator = equal; is = rw e }
-operation-at m (suc (suc (suc (suc (suc (suc zero)))))) e h = record { operator = both; is = rw e }
-operation-at m (suc (suc (suc (suc (suc (suc (suc j))))))) e h = absurd (omega arith)
-
-pub operation-of : (m : Node) → 6 ≤ m .kind → m .kind ≤ 12 → Operation m
-operation-of m h k = operation-at m (m .kind - 6) (omega arith) (omega arith)
-
 -- kinds 23 to 25
 pub record Meeting (m : Node) : Type 0 where
   pub meeting : Collective
   pub is : statementOf m ≡ collective meeting
 
 pub meeting-of : (m : Node) → 23 ≤ m .kind → m .kind ≤ 25 → Meeting m
-unfolding statementOf
 meeting-of m h k =
     elim (decLt (m .kind) 24) [
-      | yes l ↦ let e : m .kind ≡ 23 = omega arith in record { meeting = barrier; is = rw e }
+      | yes l ↦ record { meeting = barrier; is = barrier-of m (omega arith) }
       | no l ↦
           elim (decLt (m .kind) 25) [
-            | yes l′ ↦ let e : m .kind ≡ 24 = omega arith in record { meeting = broadcast (m .a) (m .b) (m .c); is = rw e }
-            | no l′ ↦ let e : m .kind ≡ 25 = omega arith in record { meeting = exchange (m .a); is = rw e }
+            | yes l′ ↦ record { meeting = broadcast (m .a) (m .b) (m .c); is = broadcast-of m (omega arith) }
+            | no l′ ↦ record { meeting = exchange (m .a); is = exchange-of m (omega arith) }
           ]
     ]
 
@@ -93,18 +68,6 @@ module _ (table planes : List ℕ) (m : Node) (given : Placed table planes m) wh
         right = given .judged .effects a (omega (arith, given .within)) (statement-part-sort table n a e);
       }
 
-  expression-fits : (e : Expression) → expressionOf m ≡ e → expressionFits table (given .place) e ≡ true
-  unfolding expressionAt
-  expression-fits e t =
-      let u : expressionOf (nodeAt table (given .place)) ≡ e = ap expressionOf (sym (given .here)) ∙ t in
-      rw u at (shape .expression-fits (given .place))
-
-  statement-fits : (s : Statement) → statementOf m ≡ s → statementFits table (given .place) s ≡ true
-  unfolding statementAt
-  statement-fits s t =
-      let u : statementOf (nodeAt table (given .place)) ≡ s = ap statementOf (sym (given .here)) ∙ t in
-      rw u at (shape .statement-fits (given .place))
-
   pub flags-read : 8 ≤ length table
   flags-read = omega (arith, shape .sized)
 
@@ -112,84 +75,42 @@ module _ (table planes : List ℕ) (m : Node) (given : Placed table planes m) wh
   planes-sized = given .judged .sized
 
   pub variable-low : m .kind ≡ 1 → m .a < 32
-  unfolding expressionFits expressionOf
   variable-low e =
-      omega
-      (arith, ltb-true (m .a) (variables table) (expression-fits (variable (m .a)) (rw e)), shape .variables-high)
+      omega (arith, variable-field table shape (given .place) m (given .here) e, shape .variables-high)
 
   pub slot-part : m .kind ≡ 5 → SinglePart table planes (m .a)
-  unfolding expressionFits expressionOf
-  slot-part e = single-part (m .a) (expression-fits (slot (m .a)) (rw e))
+  slot-part e = single-part (m .a) (first-part table shape (given .place) m (given .here) (omega arith) (omega arith))
 
   pub operand-parts : 6 ≤ m .kind → m .kind ≤ 12 → SinglePart table planes (m .a) × SinglePart table planes (m .b)
-  unfolding expressionFits
-  operand-parts h k =
-      let o = operation-of m h k in
-      let parts = expression-fits (operation (o .operator) (m .a) (m .b)) (o .is) in
-      let p = expressionPart table (given .place) (m .a) in
-      let q = expressionPart table (given .place) (m .b) in
-      (single-part (m .a) (both-left p q parts), single-part (m .b) (both-right p q parts))
+  operand-parts h k = (
+    single-part (m .a) (first-part table shape (given .place) m (given .here) (omega arith) k),
+    single-part (m .b) (second-part table shape (given .place) m (given .here) h k),
+  )
 
   pub target-low : m .kind ≡ 17 → m .a < 32
-  unfolding statementFits statementOf
-  target-low e =
-      let parts = statement-fits (assign (m .a) (m .b)) (rw e) in
-      omega (
-        arith,
-        ltb-true (m .a) (variables table)
-            (both-left (ltb (m .a) (variables table)) (expressionPart table (given .place) (m .b)) parts),
-        shape .variables-high,
-      )
+  target-low e = omega (arith, assign-fields table shape (given .place) m (given .here) e .0, shape .variables-high)
 
   pub assigned-part : m .kind ≡ 17 → SinglePart table planes (m .b)
-  unfolding statementFits statementOf
-  assigned-part e =
-      let parts = statement-fits (assign (m .a) (m .b)) (rw e) in
-      single-part (m .b) (both-right (ltb (m .a) (variables table)) (expressionPart table (given .place) (m .b)) parts)
+  assigned-part e = single-part (m .b) (assign-fields table shape (given .place) m (given .here) e .1)
 
   pub sequence-parts : m .kind ≡ 18 → EffectPart table planes (m .a) × EffectPart table planes (m .b)
-  unfolding statementFits statementOf
   sequence-parts e =
-      let parts = statement-fits (sequence (m .a) (m .b)) (rw e) in
-      let p = statementPart table (given .place) (m .a) in
-      let q = statementPart table (given .place) (m .b) in
-      (effect-part (m .a) (both-left p q parts), effect-part (m .b) (both-right p q parts))
+      let f = sequence-fields table shape (given .place) m (given .here) e in
+      (effect-part (m .a) (f .0), effect-part (m .b) (f .1))
 
   pub branch-parts : m .kind ≡ 19
       → SinglePart table planes (m .a) × EffectPart table planes (m .b) × EffectPart table planes (m .c)
-  unfolding statementFits statementOf
   branch-parts e =
-      let parts = statement-fits (branch (m .a) (m .b) (m .c)) (rw e) in
-      let p = expressionPart table (given .place) (m .a) in
-      let q = statementPart table (given .place) (m .b) in
-      let r = statementPart table (given .place) (m .c) in
-      let front = both-left (p && q) r parts in (
-        single-part (m .a) (both-left p q front),
-        effect-part (m .b) (both-right p q front),
-        effect-part (m .c) (both-right (p && q) r parts),
-      )
+      let f = branch-fields table shape (given .place) m (given .here) e in
+      (single-part (m .a) (f .0), effect-part (m .b) (f .1), effect-part (m .c) (f .2))
 
   pub loop-parts : m .kind ≡ 20 → SinglePart table planes (m .a) × EffectPart table planes (m .b)
-  unfolding statementFits statementOf
   loop-parts e =
-      let parts = statement-fits (loop (m .a) (m .b)) (rw e) in
-      let p = expressionPart table (given .place) (m .a) in
-      let q = statementPart table (given .place) (m .b) in
-      (single-part (m .a) (both-left p q parts), effect-part (m .b) (both-right p q parts))
+      let f = loop-fields table shape (given .place) m (given .here) e in
+      (single-part (m .a) (f .0), effect-part (m .b) (f .1))
 
   pub called-read : m .kind ≡ 21 → 4 * (2 + m .a) + 3 < length table
-  unfolding statementFits statementOf
-  called-read e =
-      omega (
-        arith,
-        ltb-true (m .a) (procedures table) (statement-fits (call (m .a)) (rw e)),
-        shape .sized,
-      )
+  called-read e = omega (arith, call-field table shape (given .place) m (given .here) e, shape .sized)
 
   pub source-part : m .kind ≡ 24 → SinglePart table planes (m .c)
-  unfolding statementFits collectiveFits statementOf
-  source-part e =
-      let parts = statement-fits (collective (broadcast (m .a) (m .b) (m .c))) (rw e) in
-      let p = ltb (m .a) (variables table) in
-      let q = expressionPart table (given .place) (m .b) in
-      single-part (m .c) (both-right (p && q) (expressionPart table (given .place) (m .c)) parts)
+  source-part e = single-part (m .c) (broadcast-fields table shape (given .place) m (given .here) e .2)

@@ -14,10 +14,10 @@ use Rattle.rules.specs.Collective.{arrivalOf, completedState, releasedRoll}
 use Rattle.rules.specs.Process.{processAt, withProcess, environment, depth, top, advanced}
 use Rattle.rules.specs.Step.{moved, completed, arrivedAt, stepRunning, stepTaken}
 use Rattle.rules.specs.Table.{Statement, Collective, nodeAt, statementAt, statementOf, onCollective}
-use Rattle.machine.specs.Given.{collectiveOf}
+use Rattle.meeting.specs.Meeting.{collectiveOf}
 use Rattle.machine.specs.Outcomes.{Gives}
-use Rattle.machine.proofs.StatementLaws.{alone-of}
-use Rattle.machine.proofs.CollectiveLaws.{collective-of}
+use Rattle.rules.proofs.KindLaws.{alone-of}
+use Rattle.meeting.proofs.CollectiveLaws.{collective-of}
 
 module _ (state roll : List ℕ) (count p : ℕ) (words : List ℕ) where
   pub moved-on : {after : List ℕ} → after ≡ withProcess state p words → (depth words ≡ 0 → ⊥)

@@ -4,7 +4,7 @@ use mathlib.Core.List.{List}
 use mathlib.Core.Path.{_≡_, sym, _∙_}
 use Prim.Native.Nat.{ℕ, _+_, _-_, _*_, _≤_, _<_}
 use native.Mathlib.Decide.{decLt}
-use native.Mathlib.Nat.{mul-le-mul, mul-le-mul-left, mul-suc}
+use native.Mathlib.Nat.{mul-le-mul-left, mul-suc}
 use native.Mathlib.Omega.{arith}
 use lib.Dec.{eqb}
 use lib.ListN.{length, getD}
@@ -81,6 +81,3 @@ module _ (table given : List ℕ) (few : variables table ≤ 32) (sized : length
 -- the start words of a process lie within those that are given
 pub given-within : (size count p : ℕ) → p < count → size * p + size ≤ size * count
 given-within size count p l = omega (arith, mul-le-mul-left size l, mul-suc size p)
-
-pub given-fits : (size count : ℕ) → size ≤ 44 → count ≤ 16 → size * count ≤ 704
-given-fits size count h k = mul-le-mul h k

@@ -1,84 +1,27 @@
 -- What questions 23 and 24 say of the process whose turn it is, and of all processes once the last of them arrives.
-use mathlib.Core.Bool.{true, false, _&&_}
+use mathlib.Core.Bool.{true, false}
 use mathlib.Core.List.{List}
 use mathlib.Core.Path.{_≡_, sym, _∙_}
-use Prim.Native.Nat.{ℕ, _*_, _≤_, _<_}
+use Prim.Native.Nat.{ℕ, _≤_, _<_}
 use native.Mathlib.Decide.{decLt, ℕ-discrete}
 use native.Mathlib.Omega.{arith}
-use lib.Dec.{leb}
-use lib.ListN.{length}
-use borrow.Author.Tests.{leb-true, eq-eqb}
+use borrow.Author.Tests.{eq-eqb}
 use Rattle.rules.specs.declared.Arrival.{Arrival}
 use Rattle.rules.specs.declared.Node.{Node}
 use Rattle.rules.specs.Arrivals.{running, waiting, statusAt, withArrival, allAtOneNode}
-use Rattle.rules.specs.Process.{processAt, environment, depth, top, needsPlace, stackPlaces}
-use Rattle.rules.specs.Step.{stackFits, recordFits, processFits, placeLacked}
+use Rattle.rules.specs.Process.{processAt, environment, depth, top, needsPlace}
+use Rattle.rules.specs.Step.{placeLacked}
 use Rattle.rules.specs.Table.{nodeAt, statementAt}
 use Rattle.rules.specs.WellFormed.{isStatement}
-use Rattle.rules.proofs.AnswerLaws.{both-left, both-right}
 use Rattle.rules.proofs.ArrivalLaws.{with-arrival-length, with-arrival-other}
-use Rattle.rules.proofs.ProcessLaws.{process-length}
 use Rattle.rules.proofs.StatusLaws.{one-node-waits}
 use Rattle.table.specs.declared.Header.{Header}
-use Rattle.machine.specs.Given.{Stacked, Topped, Turn, Meeting}
-use Rattle.machine.specs.Outcomes.{Team, Ready}
-use Rattle.machine.proofs.CollectiveLaws.{broadcast-fits}
-use Rattle.machine.proofs.QuestionLaws.{record-empty, top-fits}
-use Rattle.machine.proofs.StatementLaws.{top-to}
-
--- one process that question 23 holds of
-module _ (table state roll : List ℕ) (q : ℕ) (fits : processFits table state roll q ≡ true) where
-  bounded : depth (processAt state q) ≤ 256
-  unfolding processFits
-  bounded = leb-true _ stackPlaces (both-left (leb (depth (processAt state q)) stackPlaces) _ (both-left _ (recordFits table (processAt state q) roll q) fits))
-
-  stack-fit : stackFits table (processAt state q) ≡ true
-  unfolding processFits
-  stack-fit = both-right (leb (depth (processAt state q)) stackPlaces) _ (both-left _ (recordFits table (processAt state q) roll q) fits)
-
-  record-fit : recordFits table (processAt state q) roll q ≡ true
-  unfolding processFits
-  record-fit = both-right (leb (depth (processAt state q)) stackPlaces && stackFits table (processAt state q)) _ fits
-
-  -- one that has not ended holds an entry
-  held : (statusAt roll q ≡ 2 → ⊥) → 1 ≤ depth (processAt state q)
-  held u =
-      elim (decLt 0 (depth (processAt state q))) [
-        | yes l ↦ l
-        | no l ↦
-            let none : depth (processAt state q) ≡ 0 = omega arith in
-            let no-fit = record-empty table (processAt state q) roll q u (eq-eqb _ 0 none) in
-            let z : _≡_ {A = ℕ} 0 1 = cc (record-fit, no-fit) in
-            absurd (omega arith)
-      ]
-
-  pub fits-stacked : (count : ℕ) → length state ≡ 329 * count → q < count → (statusAt roll q ≡ 2 → ⊥)
-      → Stacked (processAt state q)
-  fits-stacked count sized l u = record { sized = process-length state count q sized l; held = held u; bounded = bounded }
-
-  pub fits-top : (statusAt roll q ≡ 2 → ⊥) → isStatement table (top (processAt state q)) ≡ true
-  fits-top u = top-fits table (processAt state q) stack-fit (held u)
-
--- a running process that question 23 holds of
-module _ {table : List ℕ} {header : Header} {state roll : List ℕ} {count p : ℕ} (team : Team table header state roll count)
-    (within : p < count) (fits : processFits table state roll p ≡ true) (runs : statusAt roll p ≡ running) where
-  unended : statusAt roll p ≡ 2 → ⊥
-  unended e = omega arith
-
-  pub run-stacked : Stacked (processAt state p)
-  run-stacked = fits-stacked table state roll p fits count (team .stated) within unended
-
-  pub run-statement : isStatement table (top (processAt state p)) ≡ true
-  run-statement = fits-top table state roll p fits unended
-
-  pub run-topped : {m : Node} → m ≡ nodeAt table (top (processAt state p)) → Topped table header (processAt state p) count m
-  run-topped e =
-      record {
-        given = record { read = team .read; sized = run-stacked .sized; few = team .few };
-        stacked = run-stacked;
-        here = e;
-        statement = run-statement;
-      }
+use Rattle.process.specs.Given.{Stacked, Topped, Turn}
+use Rattle.process.proofs.StatementLaws.{top-to}
+use Rattle.meeting.specs.Meeting.{Meeting}
+use Rattle.meeting.proofs.CollectiveLaws.{broadcast-fits}
+use Rattle.questions.proofs.FittingLaws.{fits-stacked, run-stacked, run-statement, run-topped}
+use Rattle.machine.specs.Outcomes.{Ready}
 
 module _ {table : List ℕ} {header : Header} {state roll : List ℕ} {count p : ℕ} (r : Ready table header state roll count p)
     (runs : statusAt roll p ≡ running) where

@@ -17,9 +17,10 @@ use Rattle.rules.specs.Step.{processesIn, question22, question23, question24, p
 use Rattle.rules.specs.WellFormed.{wellFormed}
 use Rattle.rules.proofs.AnswerLaws.{both-left, both-right, then-first, then-rest, ask-holds, each-passed}
 use Rattle.table.specs.declared.Header.{Header}
-use Rattle.machine.specs.Given.{Read}
+use Rattle.process.specs.Given.{Read}
 use Rattle.machine.specs.Layout.{Startable, Starts}
-use Rattle.machine.specs.Outcomes.{Team, Ready, Gives}
+use Rattle.questions.specs.Asked.{Team}
+use Rattle.machine.specs.Outcomes.{Ready, Gives}
 
 then-assoc : (a b c : Verdict) → (a then (b then c)) ≡ ((a then b) then c)
 then-assoc Accepted b c = refl

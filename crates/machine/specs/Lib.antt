@@ -1,4 +1,3 @@
--- What the contracts of this crate cite besides the rules.
-pub mod Given
+-- What the contracts of this crate cite besides those below it.
 pub mod Outcomes
 pub mod Layout

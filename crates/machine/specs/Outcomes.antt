@@ -1,23 +1,12 @@
--- What a step's functions are given of a team, and how they answer.
+-- What a step that is taken is given of a team, and how it answers.
 use mathlib.Core.Bool.{true, false}
 use mathlib.Core.List.{List}
 use mathlib.Core.Path.{_≡_}
-use Prim.Native.Nat.{ℕ, _*_, _≤_, _<_}
-use lib.ListN.{length}
+use Prim.Native.Nat.{ℕ, _<_}
 use Rattle.rules.specs.declared.Stepped.{Stepped}
-use Rattle.rules.specs.Arrivals.{arrivalSize}
-use Rattle.rules.specs.Process.{processWords}
 use Rattle.rules.specs.Step.{Outcome, processFits, placeLacked}
 use Rattle.table.specs.declared.Header.{Header}
-use Rattle.machine.specs.Given.{Read}
-
--- a well-formed table with its header, and a state and a roll of `count` processes
-pub record Team (table : List ℕ) (header : Header) (state roll : List ℕ) (count : ℕ) : Type 0 where
-  pub read : Read table header
-  pub some : 1 ≤ count
-  pub few : count ≤ 16
-  pub stated : length state ≡ processWords * count
-  pub rolled : length roll ≡ arrivalSize * count
+use Rattle.questions.specs.Asked.{Team}
 
 -- a team of which question 23 holds, and process p of it, of which question 24 does
 pub record Ready (table : List ℕ) (header : Header) (state roll : List ℕ) (count p : ℕ) : Type 0 where

@@ -3,52 +3,13 @@
 ghost use mathlib.Core.Path.{_≡_};
 ghost use Prim.Native.Nat.{ℕ, _+_, _*_, _<_, _≤_};
 ghost use lib.ListN.{length, getD, take, drop};
-ghost use Rattle.rules.specs.declared.Verdict.the-variants.{Accepted};
-ghost use Rattle.rules.specs.Answers.{_then_};
-ghost use Rattle.rules.specs.Start.{question18, question19, question20, question21, startState, startRoll};
-ghost use Rattle.rules.specs.WellFormed.{wellFormed};
+ghost use Rattle.rules.specs.Start.{startState, startRoll};
 ghost use Rattle.machine.specs.Layout.{laidWord, Startable};
-use crate::arrivals::write;
-use crate::questions::refuse;
+use meeting::arrivals::write;
 use rules::Arrival;
 use rules::Status;
-use rules::Verdict;
 use table::words::body;
 use table::words::header;
-
-// Questions 18 to 21 of a start.
-pub fn start_asked(
-    table: &[u8],
-    processes: u32,
-    words: &[u32],
-    state: &[u32],
-    roll: &[u32],
-) -> Verdict
-    requires { ⌜ wellFormed (now table) ≡ Accepted ⌝ }
-    ensures { λ r. ⌜ r ≡ (question18 processes
-        then question19 (now (table .entry)) processes (now (words .entry))
-        then question20 processes (now (state .entry))
-        then question21 processes (now (roll .entry))) ⌝ }
-{
-    if processes < 1 {
-        return refuse(18, 0);
-    }
-    if processes > 16 {
-        return refuse(18, 0);
-    }
-    let count = processes as usize;
-    let size = header(table).variables + 12;
-    if words.len() != size * count {
-        return refuse(19, 0);
-    }
-    if state.len() != 329 * count {
-        return refuse(20, 0);
-    }
-    if roll.len() != 4 * count {
-        return refuse(21, 0);
-    }
-    Verdict::Accepted
-}
 
 fn laid_word(given: &[u32], variables: usize, entry: u32, i: usize) -> u32
     requires { ⌜ (length (now given) ≡ variables + 12) × (variables ≤ 32) ⌝ }

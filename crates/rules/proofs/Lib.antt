@@ -4,6 +4,7 @@ pub mod BelowLaws
 pub mod AnswerLaws
 pub mod Formed
 pub mod Judged
+pub mod KindLaws
 pub mod ValueLaws
 pub mod PartLaws
 pub mod SizeLaws

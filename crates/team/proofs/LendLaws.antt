@@ -11,7 +11,7 @@ use lib.ListN.{length, getD, set, take, drop, replicate, length-set, drop-of-len
 use lib.Seq.{set-at, take-at, drop-at, take-suc, take-all, append-snoc, length-take-le, getD-set-same, getD-set-other, getD-take, ext-getD}
 use Rattle.rules.specs.declared.Arrival.{Arrival}
 use Rattle.rules.specs.Arrivals.{runningRecord, withArrival}
-use Rattle.machine.specs.Given.{arrivalAt}
+use Rattle.meeting.specs.Meeting.{arrivalAt}
 use Rattle.team.specs.Roll.{atMost, rollWords, lentRecords, loaded, saved}
 use Rattle.team.proofs.RollLaws.{words-length, words-append, words-set, words-at}
 

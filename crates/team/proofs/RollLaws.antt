@@ -10,7 +10,7 @@ use Rattle.rules.specs.declared.Arrival.{Arrival}
 use Rattle.rules.specs.declared.Status.{Status}
 use Rattle.rules.specs.declared.Status.the-variants.{Running, Waiting, Ended}
 use Rattle.rules.specs.Arrivals.{statusNumber, arrivalWords, runningRecord, withArrival, statusAt, arrivalNode, arrivalValue, arrivalSource}
-use Rattle.machine.specs.Given.{statusOf, arrivalAt}
+use Rattle.meeting.specs.Meeting.{statusOf, arrivalAt}
 use Rattle.team.specs.Roll.{rollWords}
 
 pub words-length : (roll : List Arrival) → length (rollWords roll) ≡ 4 * length roll

@@ -23,7 +23,7 @@ use denote.Triple.Walked.{says}
 use Rattle.rules.specs.declared.Arrival.{Arrival}
 use Rattle.rules.specs.Arrivals.{withArrival}
 use Rattle.rules.proofs.Arrival as T
-use Rattle.machine.specs.Given.{arrivalAt}
+use Rattle.meeting.specs.Meeting.{arrivalAt}
 use Rattle.team.specs.Roll.{atMost}
 use Rattle.team.proofs.PlainCalls.{Called, calls-plain}
 use Rattle.team.proofs.Rows.{Words, wordsVal, words-tell, words-make, recordVal, record-tell, record-make}

@@ -6,7 +6,7 @@ use lib.Dec.{ltb}
 use lib.ListN.{set, take, replicate}
 use Rattle.rules.specs.declared.Arrival.{Arrival}
 use Rattle.rules.specs.Arrivals.{arrivalWords, runningRecord}
-use Rattle.machine.specs.Given.{arrivalAt}
+use Rattle.meeting.specs.Meeting.{arrivalAt}
 
 -- a number, or its limit where it is more
 abbrev pub atMost : ℕ → ℕ → ℕ

@@ -6,7 +6,7 @@ ghost use lib.ListN.{length, take, drop};
 ghost use Rattle.rules.specs.Arrivals.{withArrival};
 ghost use Rattle.rules.specs.Start.{started};
 ghost use Rattle.rules.specs.Step.{stepped};
-ghost use Rattle.machine.specs.Given.{arrivalAt};
+ghost use Rattle.meeting.specs.Meeting.{arrivalAt};
 ghost use Rattle.machine.specs.Layout.{Starts};
 ghost use Rattle.machine.specs.Outcomes.{Gives};
 ghost use Rattle.team.specs.Roll.{atMost, rollWords, lentRecords, loaded, saved};
@@ -28,7 +28,7 @@ fn placed(words: [u32; 68], p: usize, arrival: Arrival) -> [u32; 68]
     ensures { λ r. ⌜ r ≡ withArrival words p arrival ⌝ }
 {
     let mut after = words;
-    machine::arrivals::write(&mut after, p, arrival);
+    meeting::arrivals::write(&mut after, p, arrival);
     after
 }
 
@@ -36,7 +36,7 @@ fn record_at(words: [u32; 68], p: usize) -> Arrival
     requires { ⌜ p < 17 ⌝ }
     ensures { λ r. ⌜ r ≡ arrivalAt words p ⌝ }
 {
-    machine::arrivals::read(&words, p)
+    meeting::arrivals::read(&words, p)
 }
 
 // The words of the roll's first records. A roll of more than 16 is refused for its length: 17 records say as much.

@@ -48,7 +48,7 @@ use Rattle.rules.specs.declared.Arrival.{Arrival}
 use Rattle.rules.specs.Arrivals.{runningRecord}
 use Rattle.rules.proofs.Arrival as T
 use Rattle.rules.proofs.Arrival.Laws as T′
-use Rattle.machine.specs.Given.{arrivalAt}
+use Rattle.meeting.specs.Meeting.{arrivalAt}
 use Rattle.team.specs.Roll.{lentRecords, saved}
 use Rattle.team.proofs.LendLaws.{saved-none, saved-next, saved-length, lent-within, lent-few}
 use Rattle.team.proofs.Rows.{Words, wordsTy, wordsVal, words-tell, words-make, words-typed, recordVal, record-make, record-typed}

@@ -6,7 +6,8 @@ use native.Mathlib.Omega.{arith}
 use borrow.Author.Needs.{needs}
 use Rattle.rules.specs.Judgement.{singleOf}
 use Rattle.rules.specs.Table.{expressionOf}
-use Rattle.checker.proofs.NodeLaws.{flags-read, planes-sized, variable-low, slot-part, operand-parts, operation-of}
+use Rattle.rules.proofs.KindLaws.{operation-of}
+use Rattle.checker.proofs.NodeLaws.{flags-read, planes-sized, variable-low, slot-part, operand-parts}
 use Rattle.checker.proofs.judgement.single_of.Statement.{statement}
 use Rattle.checker.proofs.judgement.single_of.Tie as tie
 
@@ -70,7 +71,7 @@ returns-5 c =
     let low = c .before .before .before .before .pre .1 in
     let parts = operand-parts _ _ _ given (operands (c .before)) low in
     simp (
-      operation-of (c .before .before .before .before .args .node) (operands (c .before)) low .is,
+      operation-of (c .before .before .before .before .args .node) (operands (c .before)) low,
       c .both-single .ensures,
       parts .0 .right,
       parts .1 .right,

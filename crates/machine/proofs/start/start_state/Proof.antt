@@ -1,6 +1,6 @@
 -- `machine::start::start_state` meets its contract. The processes passed are laid out; a part of the state is lent for each.
 use Rattle.machine.proofs.StartLaws.{laid-all, given-within}
-use Rattle.machine.proofs.LentLaws.{lent, back}
+use Rattle.process.proofs.LentLaws.{lent, back}
 use Rattle.machine.specs.Layout.{Startable}
 use Rattle.table.specs.Header.{headerOf}
 use Rattle.rules.proofs.VerdictLaws.{laid, start-words-length}

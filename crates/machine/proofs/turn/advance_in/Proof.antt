@@ -1,5 +1,5 @@
 -- `machine::turn::advance_in` meets its contract.
-use Rattle.machine.proofs.LentLaws.{lent, back}
+use Rattle.process.proofs.LentLaws.{lent, back}
 use Rattle.rules.specs.Process.{withProcess}
 use mathlib.Core.Path.{_∙_, ap}
 use borrow.Author.Needs.{needs}

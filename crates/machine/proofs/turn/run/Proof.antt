@@ -1,8 +1,8 @@
 -- `machine::turn::run` meets its contract.
 use Rattle.machine.proofs.OutcomeLaws.{run-alone, run-meets}
 use Rattle.machine.proofs.TeamLaws.{ready-stacked, ready-statement, ready-topped, ready-turn}
-use Rattle.machine.proofs.StatementLaws.{statement-below, top-to}
-use Rattle.machine.proofs.ReadLaws.{readable, read-formed}
+use Rattle.process.proofs.StatementLaws.{statement-below, top-to}
+use Rattle.process.proofs.ReadLaws.{readable, read-formed}
 use Rattle.rules.specs.Table.{nodeAt}
 use Rattle.rules.specs.Process.{top}
 use mathlib.Core.Path.{_∙_, ap}

@@ -1,0 +1,77 @@
+-- The collective that a node is, and what a well-formed table says of its parts.
+use mathlib.Core.Bool.{true, false}
+use mathlib.Core.List.{List}
+use mathlib.Core.Logic.{⊎-elim}
+use mathlib.Core.Path.{_≡_}
+use Prim.Native.Nat.{ℕ, _≤_, _<_}
+use native.Mathlib.Decide.{decLt}
+use native.Mathlib.Omega.{arith}
+use lib.Dec.{eqb}
+use borrow.Author.Tests.{eqb-true}
+use Rattle.rules.specs.declared.Node.{Node}
+use Rattle.rules.specs.Process.{top}
+use Rattle.rules.specs.Table.{statementOf, collective, barrier, broadcast, exchange}
+use Rattle.rules.proofs.ChoiceLaws.{bool-cases}
+use Rattle.rules.proofs.KindLaws.{barrier-of, broadcast-of, exchange-of, broadcast-fields, exchange-field}
+use Rattle.rules.proofs.StackLaws.{StoresLow}
+use Rattle.table.specs.declared.Header.{Header}
+use Rattle.process.specs.Given.{Part, Topped}
+use Rattle.meeting.specs.Meeting.{collectiveOf}
+use Rattle.process.proofs.StatementLaws.{top-formed, top-part}
+
+module _ (m : Node) where
+  pub is-barrier : m .kind ≡ 23 → collectiveOf m ≡ barrier
+  unfolding collectiveOf
+  is-barrier e = rw e
+
+  pub is-broadcast : m .kind ≡ 24 → collectiveOf m ≡ broadcast (m .a) (m .b) (m .c)
+  unfolding collectiveOf
+  is-broadcast e = rw e
+
+  pub is-exchange : m .kind ≡ 25 → collectiveOf m ≡ exchange (m .a)
+  unfolding collectiveOf
+  is-exchange e = rw e
+
+  -- kinds 23 to 25 are the collectives
+  pub collective-of : 23 ≤ m .kind → m .kind ≤ 25 → statementOf m ≡ collective (collectiveOf m)
+  collective-of h k =
+      elim (decLt (m .kind) 24) [
+        | yes l ↦ let e : m .kind ≡ 23 = omega arith in rw (is-barrier e) (barrier-of m e)
+        | no l ↦
+            elim (decLt (m .kind) 25) [
+              | yes l′ ↦ let e : m .kind ≡ 24 = omega arith in rw (is-broadcast e) (broadcast-of m e)
+              | no l′ ↦ let e : m .kind ≡ 25 = omega arith in rw (is-exchange e) (exchange-of m e)
+            ]
+      ]
+
+-- what a process whose top statement is a collective evaluates
+module _ {table : List ℕ} {header : Header} {words : List ℕ} {count : ℕ} {m : Node} (t : Topped table header words count m) where
+  pub broadcast-fits : m .kind ≡ 24 → (m .a < 32) × Part table (m .b) × Part table (m .c)
+  broadcast-fits e =
+      let f = broadcast-fields table (top-formed t) (top words) m (t .here) e in
+      (omega (arith, f .0, top-formed t .variables-high), top-part t (f .1), top-part t (f .2))
+
+  pub exchange-fits : m .kind ≡ 25 → Part table (m .a)
+  exchange-fits e = top-part t (exchange-field table (top-formed t) (top words) m (t .here) e)
+
+-- a collective stores below the stack
+pub stores-low : (m : Node) → (m .kind ≡ 24 → m .a < 32) → StoresLow (collectiveOf m)
+unfolding collectiveOf
+stores-low m h a b c q =
+    ⊎-elim
+    (λ (e : eqb (m .kind) 24 ≡ true).
+    let same : broadcast (m .a) (m .b) (m .c) ≡ broadcast a b c = rw e at q in
+    let first : m .a ≡ a = cc in
+    omega (arith, h (eqb-true (m .kind) 24 e)))
+    (λ (e : eqb (m .kind) 24 ≡ false).
+    ⊎-elim
+    (λ (f : eqb (m .kind) 25 ≡ true).
+    let other : exchange (m .a) ≡ broadcast a b c = rw (e, f) at q in
+    let z : _≡_ {A = ℕ} 0 1 = cc in
+    absurd (omega arith))
+    (λ (f : eqb (m .kind) 25 ≡ false).
+    let other : barrier ≡ broadcast a b c = rw (e, f) at q in
+    let z : _≡_ {A = ℕ} 0 1 = cc in
+    absurd (omega arith))
+    (bool-cases (eqb (m .kind) 25)))
+    (bool-cases (eqb (m .kind) 24))

@@ -1,0 +1,3 @@
+-- Laws that several proofs of this crate and of those above it use.
+pub mod ArrivalMoves
+pub mod CollectiveLaws

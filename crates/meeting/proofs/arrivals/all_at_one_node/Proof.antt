@@ -1,0 +1,79 @@
+-- `meeting::arrivals::all_at_one_node` meets its contract. The loop has passed only processes that wait at process 0's node.
+use Rattle.rules.proofs.ChoiceLaws.{passed-none, passed-more}
+use Rattle.rules.proofs.ChoiceLaws.{Passed, all-true}
+use Rattle.rules.proofs.StatusLaws.{one-node-not-waiting, one-node-elsewhere}
+use Rattle.rules.proofs.AnswerLaws.{both-true}
+use Rattle.rules.specs.Arrivals.{waiting, statusAt, arrivalNode, allAtOneNode}
+use borrow.Author.Tests.{eq-eqb}
+use lib.Dec.{eqb}
+use native.Mathlib.Omega.{arith}
+use Prim.Native.Nat.{ℕ, _-_, _≤_}
+use mathlib.Core.Path.{_≡_, sym, _∙_}
+use mathlib.Core.List.{List}
+use mathlib.Core.Bool.{Bool, _&&_}
+use Rattle.meeting.proofs.arrivals.all_at_one_node.Statement.{statement}
+use Rattle.meeting.proofs.arrivals.all_at_one_node.Tie as tie
+
+abbrev waits-there : List ℕ → ℕ → Bool
+waits-there roll p = eqb (statusAt roll p) waiting && eqb (arrivalNode roll p) (arrivalNode roll 0)
+
+abbrev Inv-loop : tie.InvT-loop
+Inv-loop roll count node p₀ p = (p ≤ count) × Passed (waits-there roll) p
+
+abbrev μ-loop : tie.MeasureT-loop
+μ-loop roll count node p₀ p = count - p
+
+node-of-requires : tie.Need-node-of-requires Inv-loop μ-loop
+node-of-requires c κs = omega arith
+
+loop-holds : tie.Need-loop-holds Inv-loop μ-loop
+loop-holds c = (omega arith, passed-none _)
+
+status-at-requires : tie.Need-status-at-requires Inv-loop μ-loop
+status-at-requires c κs = omega arith
+
+returns : tie.Need-returns Inv-loop μ-loop
+returns c = sym (one-node-not-waiting _ _ (c .before .before .before .loop .p) (c .before .before .loop-test .taken) (λ e. c .if1 .taken (c .before .status-at .ensures ∙ e)))
+
+node-of-requires-2 : tie.Need-node-of-requires-2 Inv-loop μ-loop
+node-of-requires-2 c κs = omega arith
+
+returns-2 : tie.Need-returns-2 Inv-loop μ-loop
+returns-2 c = sym (one-node-elsewhere _ _ (c .before .before .before .before .before .loop .p) (c .before .before .before .before .loop-test .taken) (λ e. c .if2 .taken (c .before .node-of2 .ensures ∙ e ∙ sym (c .before .before .before .before .before .before .node-of .ensures))))
+
+add-p : tie.Need-add-p Inv-loop μ-loop
+add-p c = omega arith
+
+loop-less : tie.Need-loop-less Inv-loop μ-loop
+loop-less c = omega arith
+
+loop-again : tie.Need-loop-again Inv-loop μ-loop
+loop-again c = (
+  omega arith,
+  passed-more _ _ (c .before .before .before .before .before .loop .inv .1)
+      (both-true _ _ (eq-eqb _ _ (sym (c .before .before .before .status-at .ensures) ∙ c .before .before .if1 .left))
+      (eq-eqb _ _ (sym (c .before .node-of2 .ensures) ∙ c .if2 .left ∙ c .before .before .before .before .before .before .node-of .ensures))),
+)
+
+returns-3 : tie.Need-returns-3 Inv-loop μ-loop
+unfolding allAtOneNode
+returns-3 c =
+    let end : c .before .loop .p ≡ c .before .before .before .before .args .count = omega arith in
+    sym (all-true (waits-there (c .before .before .before .before .args .roll .now)) (c .before .before .before .before .args .count) (rw end at (c .before .loop .inv .1)))
+
+pub all-at-one-node-spec : {M : Type 1} → statement M
+all-at-one-node-spec =
+    tie.close
+    (tie.spec
+    Inv-loop
+    μ-loop
+    node-of-requires
+    loop-holds
+    status-at-requires
+    returns
+    node-of-requires-2
+    returns-2
+    add-p
+    loop-less
+    loop-again
+    returns-3)

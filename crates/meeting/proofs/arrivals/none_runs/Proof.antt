@@ -1,0 +1,59 @@
+-- `meeting::arrivals::none_runs` meets its contract. The loop has passed only processes that do not run.
+use Rattle.rules.proofs.ChoiceLaws.{passed-none, passed-more}
+use Rattle.rules.proofs.ChoiceLaws.{Passed, all-true, all-false}
+use Rattle.rules.specs.Arrivals.{running, statusAt}
+use borrow.Author.Tests.{eq-eqb, ne-eqb}
+use lib.Dec.{eqb}
+use native.Mathlib.Omega.{arith}
+use Prim.Native.Nat.{ℕ, _-_, _≤_}
+use mathlib.Core.Path.{_≡_, sym, _∙_, ap}
+use mathlib.Core.List.{List}
+use mathlib.Core.Bool.{Bool, not}
+use Rattle.meeting.proofs.arrivals.none_runs.Statement.{statement}
+use Rattle.meeting.proofs.arrivals.none_runs.Tie as tie
+
+abbrev stopped : List ℕ → ℕ → Bool
+stopped roll p = not (eqb (statusAt roll p) running)
+
+abbrev Inv-loop : tie.InvT-loop
+Inv-loop roll count p₀ p = (p ≤ count) × Passed (stopped roll) p
+
+abbrev μ-loop : tie.MeasureT-loop
+μ-loop roll count p₀ p = count - p
+
+loop-holds : tie.Need-loop-holds Inv-loop μ-loop
+loop-holds c = (omega arith, passed-none _)
+
+status-at-requires : tie.Need-status-at-requires Inv-loop μ-loop
+status-at-requires c κs = omega arith
+
+returns : tie.Need-returns Inv-loop μ-loop
+returns c = sym (all-false (stopped (c .before .before .before .before .before .args .roll .now)) (c .before .before .before .before .before .args .count) (c .before .before .before .loop .p) (c .before .before .loop-test .taken) (ap not (eq-eqb _ _ (sym (c .before .status-at .ensures) ∙ c .if1 .taken))))
+
+add-p : tie.Need-add-p Inv-loop μ-loop
+add-p c = omega arith
+
+loop-less : tie.Need-loop-less Inv-loop μ-loop
+loop-less c = omega arith
+
+loop-again : tie.Need-loop-again Inv-loop μ-loop
+loop-again c = (omega arith, passed-more _ _ (c .before .before .before .loop .inv .1) (ap not (ne-eqb _ _ (λ e. c .if1 .left (c .before .status-at .ensures ∙ e)))))
+
+returns-2 : tie.Need-returns-2 Inv-loop μ-loop
+returns-2 c =
+    let end : c .before .loop .p ≡ c .before .before .before .args .count = omega arith in
+    sym (all-true (stopped (c .before .before .before .args .roll .now)) (c .before .before .before .args .count) (rw end at (c .before .loop .inv .1)))
+
+pub none-runs-spec : {M : Type 1} → statement M
+none-runs-spec =
+    tie.close
+    (tie.spec
+    Inv-loop
+    μ-loop
+    loop-holds
+    status-at-requires
+    returns
+    add-p
+    loop-less
+    loop-again
+    returns-2)

@@ -1,0 +1,81 @@
+-- `meeting::collective::arrival_of` meets its contract.
+use Rattle.meeting.proofs.CollectiveLaws.{is-barrier, is-broadcast, is-exchange, broadcast-fits, exchange-fits}
+use Rattle.process.proofs.StatementLaws.{top-to}
+use Rattle.meeting.proofs.ArrivalMoves.{arrive-running}
+use Rattle.rules.specs.Collective.{arrivalOf}
+use native.Mathlib.Omega.{arith}
+use mathlib.Core.Path.{_∙_}
+use borrow.Author.Needs.{needs}
+use Rattle.meeting.proofs.collective.arrival_of.Statement.{statement}
+use Rattle.meeting.proofs.collective.arrival_of.Tie as tie
+
+top-requires : tie.Need-top-requires
+top-requires c κs = search needs
+
+arrive-requires : tie.Need-arrive-requires
+arrive-requires c κs = search needs
+
+returns : tie.Need-returns
+unfolding arrivalOf
+returns c =
+    rw (is-barrier (c .before .before .before .before .before .args .node) (c .before .if1 .taken), ← c .before .before .top .ensures)
+    (c .arrive .ensures ∙ arrive-running (c .before .before .before .before .before .args .arrival) _ _ _ (c .before .before .before .before .before .pre .2))
+
+cast-evaluate : tie.Need-cast-evaluate
+cast-evaluate c = search needs
+
+evaluate-requires : tie.Need-evaluate-requires
+evaluate-requires c κs = (c .before .before .before .before .before .before .pre .0 .given, exchange-fits (c .before .before .before .before .before .before .pre .0) (c .before .if2 .taken))
+
+arrive-requires-2 : tie.Need-arrive-requires-2
+arrive-requires-2 c κs = search needs
+
+returns-2 : tie.Need-returns-2
+unfolding arrivalOf
+returns-2 c =
+    rw (is-exchange (c .before .before .before .before .before .before .before .before .args .node) (c .before .before .before .if2 .taken), ← c .before .before .before .before .before .top .ensures, ← c .before .evaluate .ensures)
+    (c .arrive2 .ensures ∙ arrive-running (c .before .before .before .before .before .before .before .before .args .arrival) _ _ _ (c .before .before .before .before .before .before .before .before .pre .2))
+
+cast-evaluate-2 : tie.Need-cast-evaluate-2
+cast-evaluate-2 c = search needs
+
+evaluate-requires-2 : tie.Need-evaluate-requires-2
+evaluate-requires-2 c κs =
+    let high = top-to (c .before .before .before .before .before .before .pre .0) in
+    (c .before .before .before .before .before .before .pre .0 .given, broadcast-fits (c .before .before .before .before .before .before .pre .0) (omega arith) .1)
+
+cast-evaluate-3 : tie.Need-cast-evaluate-3
+cast-evaluate-3 c = search needs
+
+evaluate-requires-3 : tie.Need-evaluate-requires-3
+evaluate-requires-3 c κs =
+    let high = top-to (c .before .before .before .before .before .before .before .before .pre .0) in
+    (c .before .before .before .before .before .before .before .before .pre .0 .given, broadcast-fits (c .before .before .before .before .before .before .before .before .pre .0) (omega arith) .2)
+
+arrive-requires-3 : tie.Need-arrive-requires-3
+arrive-requires-3 c κs = search needs
+
+returns-3 : tie.Need-returns-3
+unfolding arrivalOf
+returns-3 c =
+    let high = top-to (c .before .before .before .before .before .before .before .before .before .before .pre .0) in
+    rw (is-broadcast (c .before .before .before .before .before .before .before .before .before .before .args .node) (omega arith), ← c .before .before .before .before .before .before .before .top .ensures, ← c .before .before .before .evaluate2 .ensures, ← c .before .evaluate3 .ensures)
+    (c .arrive3 .ensures ∙ arrive-running (c .before .before .before .before .before .before .before .before .before .before .args .arrival) _ _ _ (c .before .before .before .before .before .before .before .before .before .before .pre .2))
+
+pub arrival-of-spec : {M : Type 1} → statement M
+arrival-of-spec =
+    tie.close
+    (tie.spec
+    top-requires
+    arrive-requires
+    returns
+    cast-evaluate
+    evaluate-requires
+    arrive-requires-2
+    returns-2
+    cast-evaluate-2
+    evaluate-requires-2
+    cast-evaluate-3
+    evaluate-requires-3
+    arrive-requires-3
+    returns-3)

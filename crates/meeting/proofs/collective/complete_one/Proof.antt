@@ -1,0 +1,25 @@
+-- `meeting::collective::complete_one` meets its contract.
+use Rattle.process.proofs.StackedLaws.{stacked-by}
+use Rattle.meeting.proofs.CollectiveLaws.{stores-low}
+use Rattle.rules.proofs.StackLaws.{received-length, received-depth}
+use borrow.Author.Needs.{needs}
+use Rattle.meeting.proofs.collective.complete_one.Statement.{statement}
+use Rattle.meeting.proofs.collective.complete_one.Tie as tie
+
+receive-requires : tie.Need-receive-requires
+receive-requires c κs = search needs
+
+pop-requires : tie.Need-pop-requires
+pop-requires c κs =
+    rw (c .before .before .before .receive .ensures)
+    (stacked-by (received-length _ _ _ _ _)
+    (received-depth _ _ _ _ _ (c .before .before .before .before .before .before .before .pre .0 .few) (stores-low (c .before .before .before .before .before .before .before .args .node) (c .before .before .before .before .before .before .before .pre .0 .stored))) (c .before .before .before .before .before .before .before .pre .1))
+
+same-length : tie.Need-same-length
+same-length c = search needs
+
+returns : tie.Need-returns
+returns c = rw (← c .before .before .before .before .before .before .receive .ensures) (c .before .before .pop .ensures)
+
+pub complete-one-spec : {M : Type 1} → statement M
+complete-one-spec = tie.close (tie.spec receive-requires pop-requires same-length returns)

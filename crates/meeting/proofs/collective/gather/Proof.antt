@@ -1,0 +1,69 @@
+-- `meeting::collective::gather` meets its contract. The loop's words are those gathered from the processes passed.
+use Rattle.rules.proofs.StackLaws.{gathered-length}
+use Rattle.rules.specs.Collective.{gatheredFrom}
+use lib.ListN.{length}
+use native.Mathlib.Numerals.{add-one}
+use native.Mathlib.Omega.{arith}
+use Prim.Native.Nat.{_-_, _≤_, _+_, suc}
+use mathlib.Core.Path.{_≡_, refl, _∙_, ap}
+use Rattle.meeting.proofs.collective.gather.Statement.{statement}
+use Rattle.meeting.proofs.collective.gather.Tie as tie
+
+abbrev Inv-loop : tie.InvT-loop
+Inv-loop words₀ roll count i₀ words i = (i ≤ count) × (words ≡ gatheredFrom roll i words₀)
+
+abbrev μ-loop : tie.MeasureT-loop
+μ-loop words₀ roll count i₀ words i = count - i
+
+loop-holds : tie.Need-loop-holds Inv-loop μ-loop
+unfolding gatheredFrom
+loop-holds c = (omega arith, refl)
+
+add-at : tie.Need-add-at Inv-loop μ-loop
+add-at c = omega arith
+
+value-of-requires : tie.Need-value-of-requires Inv-loop μ-loop
+value-of-requires c κs = omega arith
+
+mul-words : tie.Need-mul-words Inv-loop μ-loop
+mul-words c = omega arith
+
+slice-write-words : tie.Need-slice-write-words Inv-loop μ-loop
+slice-write-words c = omega (arith, ap length (c .before .before .loop .inv .1), gathered-length (c .before .before .before .before .before .args .roll .now) (c .before .before .loop .i) (c .before .before .before .before .before .args .words .now))
+
+add-i : tie.Need-add-i Inv-loop μ-loop
+add-i c = omega arith
+
+loop-less : tie.Need-loop-less Inv-loop μ-loop
+loop-less c = omega arith
+
+loop-again : tie.Need-loop-again Inv-loop μ-loop
+unfolding gatheredFrom
+loop-again c =
+    let next : c .before .before .loop .i + 1 ≡ suc (c .before .before .loop .i) = add-one _ in
+    (omega arith, rw (next, ← c .before .before .loop .inv .1, c .value-of .ensures))
+
+same-length : tie.Need-same-length Inv-loop μ-loop
+same-length c = ap length (c .before .loop .inv .1) ∙ gathered-length _ _ _
+
+returns : tie.Need-returns Inv-loop μ-loop
+returns c =
+    let end : c .before .loop .i ≡ c .before .before .before .before .args .count = omega arith in
+    rw (← end) (c .before .loop .inv .1)
+
+pub gather-spec : {M : Type 1} → statement M
+gather-spec =
+    tie.close
+    (tie.spec
+    Inv-loop
+    μ-loop
+    loop-holds
+    add-at
+    value-of-requires
+    mul-words
+    slice-write-words
+    add-i
+    loop-less
+    loop-again
+    same-length
+    returns)

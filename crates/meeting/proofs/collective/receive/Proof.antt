@@ -1,0 +1,71 @@
+-- `meeting::collective::receive` meets its contract.
+use Rattle.meeting.proofs.CollectiveLaws.{is-barrier, is-broadcast, is-exchange}
+use Rattle.rules.specs.Collective.{received}
+use native.Mathlib.Omega.{arith}
+use native.Mathlib.Nat.{mod-lt}
+use Prim.Native.Nat.{_%_, _<_}
+use borrow.Author.Needs.{needs}
+use Rattle.meeting.proofs.collective.receive.Statement.{statement}
+use Rattle.meeting.proofs.collective.receive.Tie as tie
+
+gather-requires : tie.Need-gather-requires
+gather-requires c κs = search needs
+
+same-length : tie.Need-same-length
+same-length c = search needs
+
+returns : tie.Need-returns
+unfolding received
+returns c = rw (is-exchange (c .before .before .before .before .before .before .before .args .node) (c .before .before .before .before .if1 .taken)) (c .before .before .gather .ensures)
+
+source-of-requires : tie.Need-source-of-requires
+source-of-requires c κs = search needs
+
+cast-sender : tie.Need-cast-sender
+cast-sender c = search needs
+
+rem-sender : tie.Need-rem-sender
+rem-sender c = search needs
+
+cast-a : tie.Need-cast-a
+cast-a c = search needs
+
+value-of-requires : tie.Need-value-of-requires
+value-of-requires c κs =
+    let small : c .before .source-of .result % c .before .before .before .before .before .before .args .count < c .before .before .before .before .before .before .args .count = mod-lt _ (omega arith) in
+    omega arith
+
+mul-words : tie.Need-mul-words
+mul-words c = search needs
+
+slice-write-words : tie.Need-slice-write-words
+slice-write-words c = omega (arith, c .before .before .before .before .before .before .before .pre .0 .stored (c .before .before .before .if2 .taken))
+
+same-length-2 : tie.Need-same-length-2
+same-length-2 c = search needs
+
+returns-2 : tie.Need-returns-2
+unfolding received
+returns-2 c = rw (is-broadcast (c .before .before .before .before .before .before .before .args .node) (c .before .before .before .if2 .taken), c .value-of .ensures, c .before .before .source-of .ensures)
+
+returns-3 : tie.Need-returns-3
+unfolding received
+returns-3 c = rw (is-barrier (c .before .before .before .before .args .node) (omega arith))
+
+pub receive-spec : {M : Type 1} → statement M
+receive-spec =
+    tie.close
+    (tie.spec
+    gather-requires
+    same-length
+    returns
+    source-of-requires
+    cast-sender
+    rem-sender
+    cast-a
+    value-of-requires
+    mul-words
+    slice-write-words
+    same-length-2
+    returns-2
+    returns-3)

@@ -1,0 +1,55 @@
+-- `meeting::collective::release_one` meets its contract.
+use Rattle.meeting.proofs.ArrivalMoves.{waiting-at, resume-waiting, end-waiting}
+use Rattle.rules.specs.Arrivals.{withArrival, end, resume}
+use borrow.Author.Tests.{eq-eqb, ne-eqb}
+use mathlib.Core.Path.{_∙_, ap}
+use borrow.Author.Needs.{needs}
+use Rattle.meeting.proofs.collective.release_one.Statement.{statement}
+use Rattle.meeting.proofs.collective.release_one.Tie as tie
+
+read-requires : tie.Need-read-requires
+read-requires c κs = search needs
+
+end-requires : tie.Need-end-requires
+end-requires c κs = search needs
+
+write-requires : tie.Need-write-requires
+write-requires c κs = search needs
+
+resume-requires : tie.Need-resume-requires
+resume-requires c κs = search needs
+
+write-requires-2 : tie.Need-write-requires-2
+write-requires-2 c κs = search needs
+
+same-length : tie.Need-same-length
+same-length c = search needs
+
+returns : tie.Need-returns
+returns c =
+    let waits = ap (λ r. r .status) (c .before .before .before .before .before .before .read .ensures) ∙ waiting-at _ _ (c .before .before .before .before .before .before .before .before .before .pre .1) in
+    rw (eq-eqb _ _ (c .before .before .before .before .before .if1 .taken))
+    (c .before .before .write .ensures ∙ ap (withArrival (c .before .before .before .before .before .before .before .before .before .args .roll .now) (c .before .before .before .before .before .before .before .before .before .args .p)) (c .before .before .before .end .ensures ∙ end-waiting (c .before .before .before .before .before .before .read .result) waits))
+
+same-length-2 : tie.Need-same-length-2
+same-length-2 c = search needs
+
+returns-2 : tie.Need-returns-2
+returns-2 c =
+    let waits = ap (λ r. r .status) (c .before .before .before .before .before .before .read .ensures) ∙ waiting-at _ _ (c .before .before .before .before .before .before .before .before .before .pre .1) in
+    rw (ne-eqb _ _ (c .before .before .before .before .before .if1 .left))
+    (c .before .before .write2 .ensures ∙ ap (withArrival (c .before .before .before .before .before .before .before .before .before .args .roll .now) (c .before .before .before .before .before .before .before .before .before .args .p)) (c .before .before .before .resume .ensures ∙ resume-waiting (c .before .before .before .before .before .before .read .result) waits))
+
+pub release-one-spec : {M : Type 1} → statement M
+release-one-spec =
+    tie.close
+    (tie.spec
+    read-requires
+    end-requires
+    write-requires
+    resume-requires
+    write-requires-2
+    same-length
+    returns
+    same-length-2
+    returns-2)

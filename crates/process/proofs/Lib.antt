@@ -1,0 +1,7 @@
+-- Laws that several proofs of this crate and of those above it use.
+pub mod NumberLaws
+pub mod ReadLaws
+pub mod ExpressionLaws
+pub mod StackedLaws
+pub mod StatementLaws
+pub mod LentLaws

@@ -1,0 +1,113 @@
+-- What a well-formed table says of the statement that a process has on top, and of its parts.
+use mathlib.Core.Bool.{true, false}
+use mathlib.Core.List.{List}
+use mathlib.Core.Path.{_≡_}
+use Prim.Native.Nat.{ℕ, _+_, _*_, _≤_, _<_}
+use native.Mathlib.Decide.{decLt}
+use native.Mathlib.Omega.{arith}
+use lib.Dec.{leb}
+use lib.ListN.{length}
+use borrow.Author.Tests.{leb-true}
+use Rattle.rules.specs.declared.Node.{Node}
+use Rattle.rules.specs.Process.{environment, depth, top, needsPlace}
+use Rattle.rules.specs.Table.{procedures, nodes, body, nodeAt, unpacked, statementAt, statementOf, Statement, loop}
+use Rattle.rules.specs.WellFormed.{isStatement, expressionPart}
+use Rattle.rules.proofs.AnswerLaws.{both-left, both-right}
+use Rattle.rules.proofs.Formed.{Formed, formed, word-past}
+use Rattle.rules.proofs.KindLaws.{sequence-of, loop-of, statement-here}
+use Rattle.rules.proofs.KindLaws.{assign-fields, branch-fields, loop-fields, call-field, latch-fields}
+use Rattle.rules.proofs.ValueLaws.{expression-part-below, expression-part-sort}
+use Rattle.table.specs.declared.Header.{Header}
+use Rattle.process.specs.Given.{Given, Stacked, Part, Topped, Turn}
+
+-- a node past the last is no statement
+pub statement-below : (table : List ℕ) → Formed table → (n : ℕ) → isStatement table n ≡ true → n < nodes table
+unfolding isStatement nodeAt unpacked
+statement-below table formed n e =
+    elim (decLt n (nodes table)) [
+      | yes l ↦ l
+      | no l ↦
+          let past = word-past table (2 + procedures table + n) (omega (arith, formed .sized)) in
+          let f : false ≡ true = rw past at e in
+          let z : _≡_ {A = ℕ} 0 1 = cc in
+          absurd (omega arith)
+    ]
+
+-- the kind of a statement node m that the table has at n
+module _ (table : List ℕ) (n : ℕ) (m : Node) (here : m ≡ nodeAt table n) where
+  pub kind-from : isStatement table n ≡ true → 16 ≤ m .kind
+  unfolding isStatement
+  kind-from e =
+      rw (← here) at
+      (leb-true 16 (nodeAt table n .kind) (both-left (leb 16 (nodeAt table n .kind)) (leb (nodeAt table n .kind) 25) e))
+
+  pub kind-to : isStatement table n ≡ true → m .kind ≤ 25
+  unfolding isStatement
+  kind-to e =
+      rw (← here) at
+      (leb-true (nodeAt table n .kind) 25 (both-right (leb 16 (nodeAt table n .kind)) (leb (nodeAt table n .kind) 25) e))
+
+-- the top statement of a process
+module _ {table : List ℕ} {header : Header} {words : List ℕ} {count : ℕ} {m : Node} (t : Topped table header words count m) where
+  pub top-formed : Formed table
+  top-formed = formed table (t .given .read .well-formed)
+
+  top-below : top words < nodes table
+  top-below = statement-below table top-formed (top words) (t .statement)
+
+  pub top-statement : {s : Statement} → statementOf m ≡ s → statementAt table (top words) ≡ s
+  top-statement e = statement-here table top-formed (top words) m (t .here) e
+
+  pub top-from : 16 ≤ m .kind
+  top-from = kind-from table (top words) m (t .here) (t .statement)
+
+  pub top-to : m .kind ≤ 25
+  top-to = kind-to table (top words) m (t .here) (t .statement)
+
+  -- a part that question 9 asks about
+  pub top-part : {a : ℕ} → expressionPart table (top words) a ≡ true → Part table a
+  top-part {a} e =
+      let below : a < top words = expression-part-below table (top words) a e in
+      (omega (arith, top-below), expression-part-sort table (top words) a e)
+
+  pub top-test : m .kind ≡ 20 → Part table (m .a)
+  top-test e = top-part (loop-fields table top-formed (top words) m (t .here) e .0)
+
+-- what each kind's function asks of a process whose turn it is
+module _ {table : List ℕ} {header : Header} {words : List ℕ} {own count : ℕ} {m : Node} (t : Turn table header words own count m) where
+  shape : Formed table
+  shape = top-formed (t .topped)
+
+  pub turn-assign : m .kind ≡ 17 → Given table header words count × Stacked words × (m .a < 32) × Part table (m .b)
+  turn-assign e =
+      let f = assign-fields table shape (top words) m (t .topped .here) e in
+      (t .topped .given, t .topped .stacked, omega (arith, f .0, shape .variables-high), top-part (t .topped) (f .1))
+
+  pub turn-sequence : m .kind ≡ 18 → Stacked words × (depth words < 256)
+  unfolding needsPlace
+  turn-sequence e = (t .topped .stacked, t .place (rw (top-statement (t .topped) (sequence-of m e))))
+
+  pub turn-branch : m .kind ≡ 19 → Given table header words count × Stacked words × Part table (m .a)
+  turn-branch e =
+      let f = branch-fields table shape (top words) m (t .topped .here) e in
+      (t .topped .given, t .topped .stacked, top-part (t .topped) (f .0))
+
+  pub turn-loop : m .kind ≡ 20 → Given table header words count × Stacked words × Part table (m .a)
+  turn-loop e = (t .topped .given, t .topped .stacked, top-test (t .topped) e)
+
+  pub turn-repeat : m .kind ≡ 20 → needsPlace table (environment words own count) (loop (m .a) (m .b)) ≡ true → depth words < 256
+  turn-repeat e n = t .place (rw (top-statement (t .topped) (loop-of m e)) n)
+
+  called : m .kind ≡ 21 → m .a < procedures table
+  called e = call-field table shape (top words) m (t .topped .here) e
+
+  pub turn-call : m .kind ≡ 21 → Stacked words × (4 * (2 + m .a) + 3 < length table)
+  turn-call e = (t .topped .stacked, omega (arith, called e, shape .sized, shape .nodes-low))
+
+  pub turn-body : m .kind ≡ 21 → body table (m .a) < 256
+  turn-body e = omega (arith, shape .body-below (m .a) (called e), shape .nodes-high)
+
+  pub turn-latch : m .kind ≡ 22 → Given table header words count × Stacked words × Part table (m .a) × Part table (m .b)
+  turn-latch e =
+      let f = latch-fields table shape (top words) m (t .topped .here) e in
+      (t .topped .given, t .topped .stacked, top-part (t .topped) (f .0), top-part (t .topped) (f .1))

@@ -1,0 +1,116 @@
+-- `process::process::advance` meets its contract.
+-- Each arm's function asks what a well-formed table says of the parts of that kind.
+use Rattle.rules.proofs.KindLaws.{nothing-of, assign-of, sequence-of, branch-of, loop-of, call-of, latch-of}
+use Rattle.process.proofs.StatementLaws.{top-statement, top-from, turn-assign, turn-sequence, turn-branch, turn-loop}
+use Rattle.process.proofs.StatementLaws.{turn-repeat, turn-call, turn-body, turn-latch}
+use Rattle.rules.specs.Process.{advanced}
+use native.Mathlib.Omega.{arith}
+use borrow.Author.Needs.{needs}
+use Rattle.process.proofs.process.advance.Statement.{statement}
+use Rattle.process.proofs.process.advance.Tie as tie
+
+cast-a : tie.Need-cast-a
+cast-a c = search needs
+
+cast-b : tie.Need-cast-b
+cast-b c = search needs
+
+assign-requires : tie.Need-assign-requires
+assign-requires c κs = turn-assign (c .before .before .before .before .before .before .pre) (c .before .match .keys1)
+
+sequence-requires : tie.Need-sequence-requires
+sequence-requires c κs = turn-sequence (c .before .before .before .before .before .before .pre) (c .before .match .keys2)
+
+branch-requires : tie.Need-branch-requires
+branch-requires c κs = turn-branch (c .before .before .before .before .before .before .pre) (c .before .match .keys3)
+
+repeat-requires : tie.Need-repeat-requires
+repeat-requires c κs = (turn-loop (c .before .before .before .before .before .before .pre) (c .before .match .keys4), turn-repeat (c .before .before .before .before .before .before .pre) (c .before .match .keys4))
+
+call-requires : tie.Need-call-requires
+call-requires c κs = (turn-call (c .before .before .before .before .before .before .pre) (c .before .match .keys5), turn-body (c .before .before .before .before .before .before .pre) (c .before .match .keys5))
+
+latch-requires : tie.Need-latch-requires
+latch-requires c κs = turn-latch (c .before .before .before .before .before .before .pre) (c .before .match .keys6)
+
+pop-requires : tie.Need-pop-requires
+pop-requires c κs = search needs
+
+same-length : tie.Need-same-length
+same-length c = search needs
+
+returns : tie.Need-returns
+unfolding advanced
+returns c = rw (top-statement (c .before .before .before .before .before .before .before .before .before .pre .topped) (assign-of _ (c .before .before .before .before .match .keys1))) (c .before .before .assign .ensures)
+
+same-length-2 : tie.Need-same-length-2
+same-length-2 c = search needs
+
+returns-2 : tie.Need-returns-2
+unfolding advanced
+returns-2 c = rw (top-statement (c .before .before .before .before .before .before .before .before .before .pre .topped) (sequence-of _ (c .before .before .before .before .match .keys2))) (c .before .before .sequence .ensures)
+
+same-length-3 : tie.Need-same-length-3
+same-length-3 c = search needs
+
+returns-3 : tie.Need-returns-3
+unfolding advanced
+returns-3 c = rw (top-statement (c .before .before .before .before .before .before .before .before .before .pre .topped) (branch-of _ (c .before .before .before .before .match .keys3))) (c .before .before .branch .ensures)
+
+same-length-4 : tie.Need-same-length-4
+same-length-4 c = search needs
+
+returns-4 : tie.Need-returns-4
+unfolding advanced
+returns-4 c = rw (top-statement (c .before .before .before .before .before .before .before .before .before .pre .topped) (loop-of _ (c .before .before .before .before .match .keys4))) (c .before .before .repeat .ensures)
+
+same-length-5 : tie.Need-same-length-5
+same-length-5 c = search needs
+
+returns-5 : tie.Need-returns-5
+unfolding advanced
+returns-5 c = rw (top-statement (c .before .before .before .before .before .before .before .before .before .pre .topped) (call-of _ (c .before .before .before .before .match .keys5))) (c .before .before .call .ensures)
+
+same-length-6 : tie.Need-same-length-6
+same-length-6 c = search needs
+
+returns-6 : tie.Need-returns-6
+unfolding advanced
+returns-6 c = rw (top-statement (c .before .before .before .before .before .before .before .before .before .pre .topped) (latch-of _ (c .before .before .before .before .match .keys6))) (c .before .before .latch .ensures)
+
+same-length-7 : tie.Need-same-length-7
+same-length-7 c = search needs
+
+returns-7 : tie.Need-returns-7
+unfolding advanced
+returns-7 c =
+    let from = top-from (c .before .before .before .before .before .before .before .before .before .pre .topped) in
+    rw (top-statement (c .before .before .before .before .before .before .before .before .before .pre .topped) (nothing-of _ (omega arith))) (c .before .before .pop .ensures)
+
+pub advance-spec : {M : Type 1} → statement M
+advance-spec =
+    tie.close
+    (tie.spec
+    cast-a
+    cast-b
+    assign-requires
+    sequence-requires
+    branch-requires
+    repeat-requires
+    call-requires
+    latch-requires
+    pop-requires
+    same-length
+    returns
+    same-length-2
+    returns-2
+    same-length-3
+    returns-3
+    same-length-4
+    returns-4
+    same-length-5
+    returns-5
+    same-length-6
+    returns-6
+    same-length-7
+    returns-7)

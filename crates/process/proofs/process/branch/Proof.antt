@@ -1,0 +1,45 @@
+-- `process::process::branch` meets its contract.
+use Rattle.rules.specs.Process.{advanced}
+use borrow.Author.Tests.{eq-eqb, ne-eqb}
+use borrow.Author.Needs.{needs}
+use Rattle.process.proofs.process.branch.Statement.{statement}
+use Rattle.process.proofs.process.branch.Tie as tie
+
+cast-evaluate : tie.Need-cast-evaluate
+cast-evaluate c = search needs
+
+evaluate-requires : tie.Need-evaluate-requires
+evaluate-requires c κs = search needs
+
+replace-requires : tie.Need-replace-requires
+replace-requires c κs = search needs
+
+replace-requires-2 : tie.Need-replace-requires-2
+replace-requires-2 c κs = search needs
+
+same-length : tie.Need-same-length
+same-length c = search needs
+
+returns : tie.Need-returns
+unfolding advanced
+returns c = rw (← c .before .before .before .before .before .evaluate .ensures, eq-eqb _ _ (c .before .before .before .before .if1 .taken)) (c .before .before .replace .ensures)
+
+same-length-2 : tie.Need-same-length-2
+same-length-2 c = search needs
+
+returns-2 : tie.Need-returns-2
+unfolding advanced
+returns-2 c = rw (← c .before .before .before .before .before .evaluate .ensures, ne-eqb _ _ (c .before .before .before .before .if1 .left)) (c .before .before .replace2 .ensures)
+
+pub branch-spec : {M : Type 1} → statement M
+branch-spec =
+    tie.close
+    (tie.spec
+    cast-evaluate
+    evaluate-requires
+    replace-requires
+    replace-requires-2
+    same-length
+    returns
+    same-length-2
+    returns-2)

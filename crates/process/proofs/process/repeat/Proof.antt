@@ -1,0 +1,46 @@
+-- `process::process::repeat` meets its contract.
+use Rattle.rules.specs.Process.{advanced, needsPlace}
+use borrow.Author.Tests.{eq-eqb, ne-eqb}
+use borrow.Author.Needs.{needs}
+use Rattle.process.proofs.process.repeat.Statement.{statement}
+use Rattle.process.proofs.process.repeat.Tie as tie
+
+cast-evaluate : tie.Need-cast-evaluate
+cast-evaluate c = search needs
+
+evaluate-requires : tie.Need-evaluate-requires
+evaluate-requires c κs = search needs
+
+pop-requires : tie.Need-pop-requires
+pop-requires c κs = search needs
+
+push-requires : tie.Need-push-requires
+unfolding needsPlace
+push-requires c κs = (c .before .before .before .before .before .before .before .pre .0 .1 .sized, c .before .before .before .before .before .before .before .pre .1 (rw (← c .before .before .evaluate .ensures, ne-eqb _ _ (c .before .if1 .left))))
+
+same-length : tie.Need-same-length
+same-length c = search needs
+
+returns : tie.Need-returns
+unfolding advanced
+returns c = rw (← c .before .before .before .before .before .evaluate .ensures, eq-eqb _ _ (c .before .before .before .before .if1 .taken)) (c .before .before .pop .ensures)
+
+same-length-2 : tie.Need-same-length-2
+same-length-2 c = search needs
+
+returns-2 : tie.Need-returns-2
+unfolding advanced
+returns-2 c = rw (← c .before .before .before .before .before .evaluate .ensures, ne-eqb _ _ (c .before .before .before .before .if1 .left)) (c .before .before .push .ensures)
+
+pub repeat-spec : {M : Type 1} → statement M
+repeat-spec =
+    tie.close
+    (tie.spec
+    cast-evaluate
+    evaluate-requires
+    pop-requires
+    push-requires
+    same-length
+    returns
+    same-length-2
+    returns-2)

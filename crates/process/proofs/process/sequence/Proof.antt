@@ -1,0 +1,26 @@
+-- `process::process::sequence` meets its contract.
+use native.Mathlib.Omega.{arith}
+use Rattle.rules.proofs.StackLaws.{replaced-length, replaced-depth}
+use mathlib.Core.Path.{_∙_}
+use borrow.Author.Needs.{needs}
+use Rattle.process.proofs.process.sequence.Statement.{statement}
+use Rattle.process.proofs.process.sequence.Tie as tie
+
+replace-requires : tie.Need-replace-requires
+replace-requires c κs = search needs
+
+push-requires : tie.Need-push-requires
+push-requires c κs =
+    rw (c .before .before .before .replace .ensures) (
+      replaced-length (c .before .before .before .before .before .before .args .words .now) (c .before .before .before .before .before .before .args .b) ∙ c .before .before .before .before .before .before .pre .0 .sized,
+      omega (arith, replaced-depth (c .before .before .before .before .before .before .args .words .now) (c .before .before .before .before .before .before .pre .0 .sized) (c .before .before .before .before .before .before .args .b) (c .before .before .before .before .before .before .pre .0 .held)),
+    )
+
+same-length : tie.Need-same-length
+same-length c = search needs
+
+returns : tie.Need-returns
+returns c = rw (← c .before .before .before .before .before .before .replace .ensures) (c .before .before .push .ensures)
+
+pub sequence-spec : {M : Type 1} → statement M
+sequence-spec = tie.close (tie.spec replace-requires push-requires same-length returns)

@@ -1,0 +1,168 @@
+// One process's 329 words: its stack, and the step of a statement that is no collective. Values are worked out before a word
+// is written.
+ghost use mathlib.Core.Bool.{true, cond};
+ghost use mathlib.Core.Path.{_≡_};
+ghost use Prim.Native.Nat.{_+_, _*_, _<_, _≤_};
+ghost use lib.Dec.{ltb};
+ghost use lib.ListN.{length, set};
+ghost use Rattle.rules.specs.Evaluation.{value, doors};
+ghost use Rattle.rules.specs.Process.{processAt, environment, depth, top, popped, replaced, pushed, advanced, needsPlace, latchesAt};
+ghost use Rattle.rules.specs.Table.{Statement, body, statementAt};
+ghost use Rattle.process.specs.Given.{Given, Stacked, Part, Turn};
+use crate::evaluation::evaluate;
+use rules::Node;
+use table::Header;
+use table::words::body;
+
+const PROCESS_WORDS: usize = 329;
+
+const DEPTH_AT: usize = 72;
+
+pub fn process_at(state: &[u32], p: usize) -> &[u32]
+    requires { ⌜ 329 * p + 329 ≤ length (now state) ⌝ }
+    ensures { λ r. ⌜ now r ≡ processAt (now (state .entry)) p ⌝ }
+{
+    let at = PROCESS_WORDS * p;
+    let end = at + PROCESS_WORDS;
+    &state[at..end]
+}
+
+pub fn top(words: &[u32]) -> u32
+    requires { ⌜ Stacked (now words) ⌝ }
+    ensures { λ r. ⌜ r ≡ top (now (words .entry)) ⌝ }
+{
+    let at = DEPTH_AT + words[DEPTH_AT] as usize;
+    words[at]
+}
+
+// "Vacated stack places are 0."
+pub fn pop(words: &mut [u32])
+    requires { ⌜ Stacked (now words) ⌝ }
+    ensures { λ _. ⌜ now (words .exit) ≡ popped (now (words .entry)) ⌝ }
+{
+    let depth = words[DEPTH_AT];
+    let at = DEPTH_AT + depth as usize;
+    words[at] = 0;
+    words[DEPTH_AT] = depth - 1;
+}
+
+fn replace(words: &mut [u32], n: u32)
+    requires { ⌜ Stacked (now words) ⌝ }
+    ensures { λ _. ⌜ now (words .exit) ≡ replaced (now (words .entry)) n ⌝ }
+{
+    let at = DEPTH_AT + words[DEPTH_AT] as usize;
+    words[at] = n;
+}
+
+fn push(words: &mut [u32], n: u32)
+    requires { ⌜ (length (now words) ≡ 329) × (depth (now words) < 256) ⌝ }
+    ensures { λ _. ⌜ now (words .exit) ≡ pushed (now (words .entry)) n ⌝ }
+{
+    let depth = words[DEPTH_AT];
+    let at = DEPTH_AT + 1 + depth as usize;
+    words[at] = n;
+    words[DEPTH_AT] = depth + 1;
+}
+
+fn assign(table: &[u8], header: Header, words: &mut [u32], own: u32, count: u32, a: usize, b: usize)
+    requires { ⌜ Given (now table) header (now words) count × Stacked (now words) × (a < 32) × Part (now table) b ⌝ }
+    ensures { λ _. ⌜ now (words .exit)
+        ≡ advanced (now (table .entry)) (environment (now (words .entry)) own count) (now (words .entry))
+        (Statement.assign a b) ⌝ }
+{
+    let value = evaluate(table, header, words, own, count, b);
+    words[a] = value;
+    pop(words);
+}
+
+fn sequence(words: &mut [u32], a: u32, b: u32)
+    requires { ⌜ Stacked (now words) × (depth (now words) < 256) ⌝ }
+    ensures { λ _. ⌜ now (words .exit) ≡ pushed (replaced (now (words .entry)) b) a ⌝ }
+{
+    replace(words, b);
+    push(words, a);
+}
+
+fn branch(table: &[u8], header: Header, words: &mut [u32], own: u32, count: u32, node: Node)
+    requires { ⌜ Given (now table) header (now words) count × Stacked (now words) × Part (now table) (node .a) ⌝ }
+    ensures { λ _. ⌜ now (words .exit)
+        ≡ advanced (now (table .entry)) (environment (now (words .entry)) own count) (now (words .entry))
+        (Statement.branch (node .a) (node .b) (node .c)) ⌝ }
+{
+    let test = evaluate(table, header, words, own, count, node.a as usize);
+    if test == 0 {
+        replace(words, node.c);
+    } else {
+        replace(words, node.b);
+    }
+}
+
+fn repeat(table: &[u8], header: Header, words: &mut [u32], own: u32, count: u32, node: Node)
+    requires { ⌜ Given (now table) header (now words) count × Stacked (now words) × Part (now table) (node .a) ⌝ }
+    requires { ⌜ (needsPlace (now table) (environment (now words) own count) (Statement.loop (node .a) (node .b)) ≡ true
+        → depth (now words) < 256) ⌝ }
+    ensures { λ _. ⌜ now (words .exit)
+        ≡ advanced (now (table .entry)) (environment (now (words .entry)) own count) (now (words .entry))
+        (Statement.loop (node .a) (node .b)) ⌝ }
+{
+    let test = evaluate(table, header, words, own, count, node.a as usize);
+    if test == 0 {
+        pop(words);
+    } else {
+        push(words, node.b);
+    }
+}
+
+fn call(table: &[u8], words: &mut [u32], p: usize)
+    requires { ⌜ Stacked (now words) × (4 * (2 + p) + 3 < length (now table)) ⌝ }
+    requires { ⌜ body (now table) p < 256 ⌝ }
+    ensures { λ _. ⌜ now (words .exit) ≡ replaced (now (words .entry)) (body (now (table .entry)) p) ⌝ }
+{
+    let entry = body(table, p);
+    replace(words, entry as u32);
+}
+
+// "from 12 on nothing is changed"
+fn write_latch(words: &mut [u32], place: u32, value: u32)
+    requires { ⌜ length (now words) ≡ 329 ⌝ }
+    ensures { λ _. ⌜ now (words .exit)
+        ≡ cond (ltb place doors) (set (now (words .entry)) (latchesAt + place) value) (now (words .entry)) ⌝ }
+{
+    if place < 12 {
+        let at = 60 + place as usize;
+        words[at] = value;
+    }
+}
+
+fn latch(table: &[u8], header: Header, words: &mut [u32], own: u32, count: u32, a: usize, b: usize)
+    requires { ⌜ Given (now table) header (now words) count × Stacked (now words) × Part (now table) a × Part (now table) b ⌝ }
+    ensures { λ _. ⌜ now (words .exit)
+        ≡ advanced (now (table .entry)) (environment (now (words .entry)) own count) (now (words .entry))
+        (Statement.latch a b) ⌝ }
+{
+    let place = evaluate(table, header, words, own, count, a);
+    let value = evaluate(table, header, words, own, count, b);
+    write_latch(words, place, value);
+    pop(words);
+}
+
+// The step of the top statement, which is no collective.
+pub fn advance(table: &[u8], header: Header, words: &mut [u32], own: u32, count: u32, node: Node)
+    requires { ⌜ Turn (now table) header (now words) own count node ⌝ }
+    ensures { λ _. ⌜ now (words .exit)
+        ≡ advanced (now (table .entry)) (environment (now (words .entry)) own count) (now (words .entry))
+        (statementAt (now (table .entry)) (top (now (words .entry)))) ⌝ }
+{
+    let kind = node.kind;
+    let a = node.a as usize;
+    let b = node.b as usize;
+    match kind {
+        17 => assign(table, header, words, own, count, a, b),
+        18 => sequence(words, node.a, node.b),
+        19 => branch(table, header, words, own, count, node),
+        20 => repeat(table, header, words, own, count, node),
+        21 => call(table, words, a),
+        22 => latch(table, header, words, own, count, a, b),
+        _ => pop(words),
+    }
+}

@@ -1,0 +1,73 @@
+-- What the questions' parts say: of a process's stack and record, of a statement's need of a place, of the start words.
+use mathlib.Core.Bool.{true, false}
+use mathlib.Core.List.{List}
+use mathlib.Core.Logic.{⊎-elim}
+use mathlib.Core.Path.{_≡_, refl}
+use Prim.Native.Nat.{ℕ, zero, suc, _+_, _-_, _*_, _≤_, _<_}
+use native.Mathlib.Nat.{mul-le-mul}
+use native.Mathlib.Omega.{arith}
+use lib.Dec.{eqb}
+use lib.ListN.{getD}
+use borrow.Author.Tests.{ne-eqb}
+use Rattle.rules.specs.declared.Node.{Node}
+use Rattle.rules.specs.Arrivals.{statusAt}
+use Rattle.rules.specs.Evaluation.{Environment}
+use Rattle.rules.specs.Process.{depth, top, stackAt, needsPlace}
+use Rattle.rules.specs.Step.{stackFits, recordFits}
+use Rattle.rules.specs.Table.{nodes, statementOf}
+use Rattle.rules.specs.WellFormed.{isStatement}
+use Rattle.rules.proofs.ChoiceLaws.{bool-cases, all-at}
+use Rattle.rules.proofs.Formed.{Formed}
+use Rattle.process.proofs.StatementLaws.{statement-below}
+
+pub statement-past : (table : List ℕ) → Formed table → (n : ℕ) → nodes table ≤ n → isStatement table n ≡ false
+statement-past table formed n l =
+    ⊎-elim
+    (λ (e : isStatement table n ≡ true). absurd (omega (arith, statement-below table formed n e)))
+    (λ (e : isStatement table n ≡ false). e)
+    (bool-cases (isStatement table n))
+
+-- the top of a stack that holds an entry is a statement
+pub top-fits : (table words : List ℕ) → stackFits table words ≡ true → 1 ≤ depth words → isStatement table (top words) ≡ true
+unfolding stackFits top
+top-fits table words e l =
+    let at : 73 + (depth words - 1) ≡ 72 + depth words = omega arith in
+    rw at at (all-at (λ i. isStatement table (getD words (stackAt + i) 0)) (depth words) e (depth words - 1) (omega arith))
+
+-- an ended process's stack is empty, and no other's
+pub record-empty : (table words roll : List ℕ) (p : ℕ) → (statusAt roll p ≡ 2 → ⊥) → eqb (depth words) 0 ≡ true
+    → recordFits table words roll p ≡ false
+unfolding recordFits
+record-empty table words roll p u e =
+    ⊎-elim
+    (λ (f : eqb (statusAt roll p) 0 ≡ true). simp (f, e))
+    (λ (f : eqb (statusAt roll p) 0 ≡ false).
+    ⊎-elim
+    (λ (g : eqb (statusAt roll p) 1 ≡ true). simp (f, g, e))
+    (λ (g : eqb (statusAt roll p) 1 ≡ false). simp (f, g, ne-eqb (statusAt roll p) 2 u))
+    (bool-cases (eqb (statusAt roll p) 1)))
+    (bool-cases (eqb (statusAt roll p) 0))
+
+-- only kinds 18 and 20 can need a stack place
+needs-at : (table : List ℕ) (env : Environment) (m : Node) (j : ℕ) → m .kind - 16 ≡ j → j < 10 → (m .kind ≡ 18 → ⊥)
+    → (m .kind ≡ 20 → ⊥) → needsPlace table env (statementOf m) ≡ false
+unfolding statementOf needsPlace
+needs-at table env m zero e h n l = rw e
+needs-at table env m (suc zero) e h n l = rw e
+needs-at table env m (suc (suc zero)) e h n l = absurd (n (omega arith))
+needs-at table env m (suc (suc (suc zero))) e h n l = rw e
+needs-at table env m (suc (suc (suc (suc zero)))) e h n l = absurd (l (omega arith))
+needs-at table env m (suc (suc (suc (suc (suc zero))))) e h n l = rw e
+needs-at table env m (suc (suc (suc (suc (suc (suc zero)))))) e h n l = rw e
+needs-at table env m (suc (suc (suc (suc (suc (suc (suc zero))))))) e h n l = rw e
+needs-at table env m (suc (suc (suc (suc (suc (suc (suc (suc zero)))))))) e h n l = rw e
+needs-at table env m (suc (suc (suc (suc (suc (suc (suc (suc (suc zero))))))))) e h n l = rw e
+needs-at table env m (suc (suc (suc (suc (suc (suc (suc (suc (suc (suc j)))))))))) e h n l = absurd (omega arith)
+
+pub needs-other : (table : List ℕ) (env : Environment) (m : Node) → m .kind ≤ 25 → (m .kind ≡ 18 → ⊥) → (m .kind ≡ 20 → ⊥)
+    → needsPlace table env (statementOf m) ≡ false
+needs-other table env m h n l = needs-at table env m (m .kind - 16) refl (omega arith) n l
+
+-- the start words of all processes are few
+pub given-fits : (size count : ℕ) → size ≤ 44 → count ≤ 16 → size * count ≤ 704
+given-fits size count h k = mul-le-mul h k

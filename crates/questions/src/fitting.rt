@@ -1,0 +1,153 @@
+// Question 23: does each process's part of state and roll fit?
+ghost use mathlib.Core.Bool.{true, false};
+ghost use mathlib.Core.Path.{_≡_};
+ghost use Prim.Native.Nat.{_+_, _*_, _<_, _≤_};
+ghost use lib.ListN.{length};
+ghost use Rattle.rules.specs.Choice.{firstFailing};
+ghost use Rattle.rules.specs.Process.{depth, top};
+ghost use Rattle.rules.specs.Step.{stackFits, fieldsZero, lackedZero, waitFits, recordFits, processFits};
+ghost use Rattle.rules.specs.Table.{statementOf, onCollective};
+ghost use Rattle.rules.specs.WellFormed.{isStatement};
+ghost use Rattle.process.specs.Given.{Read, Stacked};
+ghost use Rattle.questions.specs.Asked.{wordsFit};
+use meeting::arrivals::node_of;
+use meeting::arrivals::source_of;
+use meeting::arrivals::status_at;
+use meeting::arrivals::value_of;
+use process::process::process_at;
+use process::process::top;
+use rules::Node;
+use table::Header;
+use table::words::node_at;
+
+fn is_statement(table: &[u8], header: Header, n: usize) -> bool
+    requires { ⌜ Read (now table) header ⌝ }
+    ensures { λ r. ⌜ r ≡ isStatement (now (table .entry)) n ⌝ }
+{
+    if n >= header.nodes {
+        return false;
+    }
+    let kind = node_at(table, header, n).kind;
+    if kind < 16 {
+        return false;
+    }
+    kind <= 25
+}
+
+// "each stack entry below depth a statement"
+fn stack_fits(table: &[u8], header: Header, words: &[u32]) -> bool
+    requires { ⌜ Read (now table) header × (length (now words) ≡ 329) × (depth (now words) ≤ 256) ⌝ }
+    ensures { λ r. ⌜ r ≡ stackFits (now (table .entry)) (now (words .entry)) ⌝ }
+{
+    let depth = words[72] as usize;
+    let mut i = 0;
+    while i < depth {
+        let at = 73 + i;
+        let entry = words[at] as usize;
+        if !is_statement(table, header, entry) {
+            return false;
+        }
+        i += 1;
+    }
+    true
+}
+
+fn fields_zero(roll: &[u32], p: usize) -> bool
+    requires { ⌜ 4 * p + 3 < length (now roll) ⌝ }
+    ensures { λ r. ⌜ r ≡ fieldsZero (now (roll .entry)) p ⌝ }
+{
+    if node_of(roll, p) != 0 {
+        return false;
+    }
+    if value_of(roll, p) != 0 {
+        return false;
+    }
+    source_of(roll, p) == 0
+}
+
+// "a field the kind lacks is 0", and false of a statement that is no collective
+fn lacked_zero(roll: &[u32], p: usize, node: Node) -> bool
+    requires { ⌜ (4 * p + 3 < length (now roll)) × (node .kind ≤ 25) ⌝ }
+    ensures { λ r. ⌜ r ≡ onCollective (statementOf node) (lackedZero (now (roll .entry)) p) false ⌝ }
+{
+    let kind = node.kind;
+    if kind < 23 {
+        return false;
+    }
+    if kind == 24 {
+        return true;
+    }
+    if kind == 25 {
+        return source_of(roll, p) == 0;
+    }
+    if value_of(roll, p) != 0 {
+        return false;
+    }
+    source_of(roll, p) == 0
+}
+
+fn wait_fits(table: &[u8], header: Header, words: &[u32], roll: &[u32], p: usize) -> bool
+    requires { ⌜ Read (now table) header × Stacked (now words) × (4 * p + 3 < length (now roll))
+        × (isStatement (now table) (top (now words)) ≡ true) ⌝ }
+    ensures { λ r. ⌜ r ≡ waitFits (now (table .entry)) (now (words .entry)) (now (roll .entry)) p ⌝ }
+{
+    let entry = top(words);
+    if entry != node_of(roll, p) {
+        return false;
+    }
+    lacked_zero(roll, p, node_at(table, header, entry as usize))
+}
+
+fn record_fits(table: &[u8], header: Header, words: &[u32], roll: &[u32], p: usize) -> bool
+    requires { ⌜ Read (now table) header × (length (now words) ≡ 329) × (depth (now words) ≤ 256)
+        × (4 * p + 3 < length (now roll)) × (stackFits (now table) (now words) ≡ true) ⌝ }
+    ensures { λ r. ⌜ r ≡ recordFits (now (table .entry)) (now (words .entry)) (now (roll .entry)) p ⌝ }
+{
+    let status = status_at(roll, p);
+    let empty = words[72] == 0;
+    if status == 2 {
+        if empty {
+            return fields_zero(roll, p);
+        }
+        return false;
+    }
+    if empty {
+        return false;
+    }
+    if status == 0 {
+        return fields_zero(roll, p);
+    }
+    if status == 1 {
+        return wait_fits(table, header, words, roll, p);
+    }
+    false
+}
+
+// Question 23 of one process's words.
+fn words_fit(table: &[u8], header: Header, words: &[u32], roll: &[u32], p: usize) -> bool
+    requires { ⌜ Read (now table) header × (length (now words) ≡ 329) × (4 * p + 3 < length (now roll)) ⌝ }
+    ensures { λ r. ⌜ r ≡ wordsFit (now (table .entry)) (now (words .entry)) (now (roll .entry)) p ⌝ }
+{
+    if words[72] > 256 {
+        return false;
+    }
+    if !stack_fits(table, header, words) {
+        return false;
+    }
+    record_fits(table, header, words, roll, p)
+}
+
+// "for 23 and 24 the first bank failing"
+pub fn first_unfit(table: &[u8], header: Header, state: &[u32], roll: &[u32], count: usize) -> usize
+    requires { ⌜ Read (now table) header × (length (now state) ≡ 329 * count) × (length (now roll) ≡ 4 * count) ⌝ }
+    ensures { λ r. ⌜ r ≡ firstFailing (processFits (now (table .entry)) (now (state .entry)) (now (roll .entry))) count ⌝ }
+{
+    let mut p = 0;
+    while p < count {
+        if !words_fit(table, header, process_at(state, p), roll, p) {
+            return p;
+        }
+        p += 1;
+    }
+    count
+}

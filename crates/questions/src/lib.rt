@@ -1,0 +1,165 @@
+// Questions 18 to 24, which a start and a step put to state and roll once the table is well formed.
+ghost use mathlib.Core.Bool.{true};
+ghost use mathlib.Core.Path.{_≡_};
+ghost use Prim.Native.Nat.{_<_};
+ghost use Rattle.rules.specs.declared.Verdict.the-variants.{Accepted};
+ghost use Rattle.rules.specs.Answers.{_then_, refused};
+ghost use Rattle.rules.specs.Process.{environment, top, needsPlace};
+ghost use Rattle.rules.specs.Start.{question18, question19, question20, question21};
+ghost use Rattle.rules.specs.Step.{processesIn, processFits, placeLacked, question22, question23, question24};
+ghost use Rattle.rules.specs.Table.{statementAt};
+ghost use Rattle.rules.specs.WellFormed.{wellFormed};
+ghost use Rattle.process.specs.Given.{Topped};
+ghost use Rattle.questions.specs.Asked.{Team};
+use crate::fitting::first_unfit;
+use meeting::arrivals::all_at_one_node;
+use meeting::arrivals::status_at;
+use process::evaluation::evaluate;
+use process::process::process_at;
+use process::process::top;
+use rules::Node;
+use rules::Refusal;
+use rules::Verdict;
+use table::Header;
+use table::words::header;
+use table::words::node_at;
+
+pub mod fitting; // fitting.rt: question 23 of one process after another
+
+pub fn refuse(number: u32, place: u32) -> Verdict
+    ensures { λ r. ⌜ r ≡ refused number place ⌝ }
+{
+    Verdict::Refused(Refusal { number, place })
+}
+
+// Questions 18 to 21 of a start.
+pub fn start_asked(
+    table: &[u8],
+    processes: u32,
+    words: &[u32],
+    state: &[u32],
+    roll: &[u32],
+) -> Verdict
+    requires { ⌜ wellFormed (now table) ≡ Accepted ⌝ }
+    ensures { λ r. ⌜ r ≡ (question18 processes
+        then question19 (now (table .entry)) processes (now (words .entry))
+        then question20 processes (now (state .entry))
+        then question21 processes (now (roll .entry))) ⌝ }
+{
+    if processes < 1 {
+        return refuse(18, 0);
+    }
+    if processes > 16 {
+        return refuse(18, 0);
+    }
+    let count = processes as usize;
+    let size = header(table).variables + 12;
+    if words.len() != size * count {
+        return refuse(19, 0);
+    }
+    if state.len() != 329 * count {
+        return refuse(20, 0);
+    }
+    if roll.len() != 4 * count {
+        return refuse(21, 0);
+    }
+    Verdict::Accepted
+}
+
+// Questions 21 and 20 of a step.
+pub fn sizes_asked(state: &[u32], roll: &[u32]) -> Verdict
+    ensures { λ r. ⌜ r ≡ (question21 (processesIn (now (roll .entry))) (now (roll .entry))
+        then question20 (processesIn (now (roll .entry))) (now (state .entry))) ⌝ }
+{
+    let count = roll.len() / 4;
+    if roll.len() != 4 * count {
+        return refuse(21, 0);
+    }
+    if count < 1 {
+        return refuse(21, 0);
+    }
+    if count > 16 {
+        return refuse(21, 0);
+    }
+    if state.len() != 329 * count {
+        return refuse(20, 0);
+    }
+    Verdict::Accepted
+}
+
+// 24's "if one is needed"
+fn needs_place(
+    table: &[u8],
+    header: Header,
+    words: &[u32],
+    own: u32,
+    count: u32,
+    node: Node,
+) -> bool
+    requires { ⌜ Topped (now table) header (now words) count node ⌝ }
+    ensures { λ r. ⌜ r ≡ needsPlace (now (table .entry)) (environment (now (words .entry)) own count)
+        (statementAt (now (table .entry)) (top (now (words .entry)))) ⌝ }
+{
+    let kind = node.kind;
+    if kind == 18 {
+        return true;
+    }
+    if kind == 20 {
+        return evaluate(table, header, words, own, count, node.a as usize) != 0;
+    }
+    false
+}
+
+// "Has the bank a free stack place if one is needed?"
+fn place_lacked(
+    table: &[u8],
+    header: Header,
+    state: &[u32],
+    roll: &[u32],
+    count: u32,
+    p: usize,
+) -> bool
+    requires { ⌜ Team (now table) header (now state) (now roll) count × (p < count)
+        × (processFits (now table) (now state) (now roll) p ≡ true) ⌝ }
+    ensures { λ r. ⌜ r ≡ placeLacked (now (table .entry)) (now (state .entry)) (now (roll .entry)) count p ⌝ }
+{
+    if status_at(roll, p) != 0 {
+        return false;
+    }
+    let words = process_at(state, p);
+    if words[72] != 256 {
+        return false;
+    }
+    let node = node_at(table, header, top(words) as usize);
+    needs_place(table, header, words, p as u32, count, node)
+}
+
+// Questions 22 to 24 of a step.
+pub fn process_asked(
+    table: &[u8],
+    header: Header,
+    state: &[u32],
+    roll: &[u32],
+    count: u32,
+    process: u32,
+) -> Verdict
+    requires { ⌜ Team (now table) header (now state) (now roll) count ⌝ }
+    ensures { λ r. ⌜ r ≡ (question22 count process
+        then question23 (now (table .entry)) (now (state .entry)) (now (roll .entry)) count
+        then question24 (now (table .entry)) (now (state .entry)) (now (roll .entry)) count process) ⌝ }
+{
+    if process >= count {
+        return refuse(22, process);
+    }
+    let unfit = first_unfit(table, header, state, roll, count as usize);
+    if unfit < count as usize {
+        return refuse(23, unfit as u32);
+    }
+    if all_at_one_node(roll, count as usize) {
+        return refuse(23, 0);
+    }
+    if place_lacked(table, header, state, roll, count, process as usize) {
+        return refuse(24, process);
+    }
+    Verdict::Accepted
+}

@@ -1,0 +1,215 @@
+-- What a node is, by its kind, and what a well-formed table says of its fields.
+use mathlib.Core.Bool.{true, _&&_}
+use mathlib.Core.List.{List, [], _∷_}
+use mathlib.Core.Path.{_≡_, refl, sym, _∙_, ap}
+use Prim.Native.Nat.{ℕ, zero, suc, _+_, _-_, _≤_, _<_}
+use native.Mathlib.Decide.{decLt}
+use native.Mathlib.Omega.{arith}
+use lib.Dec.{ltb}
+use lib.ListN.{getD}
+use borrow.Author.Tests.{ltb-true}
+use Rattle.rules.specs.declared.Node.{Node}
+use Rattle.rules.specs.Table.{variables, procedures, nodeAt, expressionOf, statementOf, expressionAt, statementAt}
+use Rattle.rules.specs.Table.{Operator, sum, difference, product, quotient, less, equal, both}
+use Rattle.rules.specs.Table.{Expression, variable, door, slot, operation}
+use Rattle.rules.specs.Table.{Statement, nothing, assign, sequence, branch, loop, call, latch, collective}
+use Rattle.rules.specs.Table.{Collective, barrier, broadcast, exchange, onCollective}
+use Rattle.rules.specs.WellFormed.{expressionPart, statementPart, expressionFits, collectiveFits, statementFits}
+use Rattle.rules.proofs.AnswerLaws.{both-left, both-right}
+use Rattle.rules.proofs.Formed.{Formed}
+
+-- the operator of kind 6 + j
+abbrev pub operatorAt : ℕ → Operator
+operatorAt j = getD (sum ∷ difference ∷ product ∷ quotient ∷ less ∷ equal ∷ []) j both
+
+module _ (m : Node) where
+  pub variable-of : m .kind ≡ 1 → expressionOf m ≡ variable (m .a)
+  unfolding expressionOf
+  variable-of e = rw e
+
+  pub door-of : m .kind ≡ 4 → expressionOf m ≡ door (m .a)
+  unfolding expressionOf
+  door-of e = rw e
+
+  pub slot-of : m .kind ≡ 5 → expressionOf m ≡ slot (m .a)
+  unfolding expressionOf
+  slot-of e = rw e
+
+  operation-at : (j : ℕ) → m .kind ≡ 6 + j → j < 7 → expressionOf m ≡ operation (operatorAt j) (m .a) (m .b)
+  unfolding expressionOf
+  operation-at zero e h = rw e
+  operation-at (suc zero) e h = rw e
+  operation-at (suc (suc zero)) e h = rw e
+  operation-at (suc (suc (suc zero))) e h = rw e
+  operation-at (suc (suc (suc (suc zero)))) e h = rw e
+  operation-at (suc (suc (suc (suc (suc zero))))) e h = rw e
+  operation-at (suc (suc (suc (suc (suc (suc zero)))))) e h = rw e
+  operation-at (suc (suc (suc (suc (suc (suc (suc j))))))) e h = absurd (omega arith)
+
+  -- kinds 6 to 12 are the operators in their order
+  pub operation-of : 6 ≤ m .kind → m .kind ≤ 12 → expressionOf m ≡ operation (operatorAt (m .kind - 6)) (m .a) (m .b)
+  operation-of h k = operation-at (m .kind - 6) (omega arith) (omega arith)
+
+  pub nothing-of : m .kind ≡ 16 → statementOf m ≡ nothing
+  unfolding statementOf
+  nothing-of e = rw e
+
+  pub assign-of : m .kind ≡ 17 → statementOf m ≡ assign (m .a) (m .b)
+  unfolding statementOf
+  assign-of e = rw e
+
+  pub sequence-of : m .kind ≡ 18 → statementOf m ≡ sequence (m .a) (m .b)
+  unfolding statementOf
+  sequence-of e = rw e
+
+  pub branch-of : m .kind ≡ 19 → statementOf m ≡ branch (m .a) (m .b) (m .c)
+  unfolding statementOf
+  branch-of e = rw e
+
+  pub loop-of : m .kind ≡ 20 → statementOf m ≡ loop (m .a) (m .b)
+  unfolding statementOf
+  loop-of e = rw e
+
+  pub call-of : m .kind ≡ 21 → statementOf m ≡ call (m .a)
+  unfolding statementOf
+  call-of e = rw e
+
+  pub latch-of : m .kind ≡ 22 → statementOf m ≡ latch (m .a) (m .b)
+  unfolding statementOf
+  latch-of e = rw e
+
+  pub barrier-of : m .kind ≡ 23 → statementOf m ≡ collective barrier
+  unfolding statementOf
+  barrier-of e = rw e
+
+  pub broadcast-of : m .kind ≡ 24 → statementOf m ≡ collective (broadcast (m .a) (m .b) (m .c))
+  unfolding statementOf
+  broadcast-of e = rw e
+
+  pub exchange-of : m .kind ≡ 25 → statementOf m ≡ collective (exchange (m .a))
+  unfolding statementOf
+  exchange-of e = rw e
+
+-- kinds below 23 are no collective
+module _ {A : Type 0} (m : Node) (meet : Collective → A) (other : A) where
+  alone-at : (j : ℕ) → m .kind - 16 ≡ j → j < 7 → onCollective (statementOf m) meet other ≡ other
+  unfolding statementOf
+  alone-at zero e h = rw e
+  alone-at (suc zero) e h = rw e
+  alone-at (suc (suc zero)) e h = rw e
+  alone-at (suc (suc (suc zero))) e h = rw e
+  alone-at (suc (suc (suc (suc zero)))) e h = rw e
+  alone-at (suc (suc (suc (suc (suc zero))))) e h = rw e
+  alone-at (suc (suc (suc (suc (suc (suc zero)))))) e h = rw e
+  alone-at (suc (suc (suc (suc (suc (suc (suc j))))))) e h = absurd (omega arith)
+
+  pub alone-of : m .kind < 23 → onCollective (statementOf m) meet other ≡ other
+  alone-of h = alone-at (m .kind - 16) refl (omega arith)
+
+-- the fields of a node m that a well-formed table has at n
+module _ (table : List ℕ) (formed : Formed table) (n : ℕ) (m : Node) (here : m ≡ nodeAt table n) where
+  pub expression-here : {e : Expression} → expressionOf m ≡ e → expressionAt table n ≡ e
+  unfolding expressionAt
+  expression-here t = ap expressionOf (sym here) ∙ t
+
+  pub statement-here : {s : Statement} → statementOf m ≡ s → statementAt table n ≡ s
+  unfolding statementAt
+  statement-here t = ap statementOf (sym here) ∙ t
+
+  expression-fits : {e : Expression} → expressionOf m ≡ e → expressionFits table n e ≡ true
+  expression-fits t = rw (expression-here t) at (formed .expression-fits n)
+
+  statement-fits : {s : Statement} → statementOf m ≡ s → statementFits table n s ≡ true
+  statement-fits t = rw (statement-here t) at (formed .statement-fits n)
+
+  pub variable-field : m .kind ≡ 1 → m .a < variables table
+  unfolding expressionFits
+  variable-field e = ltb-true (m .a) (variables table) (expression-fits (variable-of m e))
+
+  operands : 6 ≤ m .kind → m .kind ≤ 12 → (expressionPart table n (m .a) && expressionPart table n (m .b)) ≡ true
+  unfolding expressionFits
+  operands h k = expression-fits (operation-of m h k)
+
+  pub first-part : 4 ≤ m .kind → m .kind ≤ 12 → expressionPart table n (m .a) ≡ true
+  unfolding expressionFits
+  first-part h k =
+      elim (decLt (m .kind) 6) [
+        | yes l ↦
+            elim (decLt (m .kind) 5) [
+              | yes l′ ↦ expression-fits (door-of m (omega arith))
+              | no l′ ↦ expression-fits (slot-of m (omega arith))
+            ]
+        | no l ↦ both-left (expressionPart table n (m .a)) (expressionPart table n (m .b)) (operands (omega arith) k)
+      ]
+
+  pub second-part : 6 ≤ m .kind → m .kind ≤ 12 → expressionPart table n (m .b) ≡ true
+  second-part h k = both-right (expressionPart table n (m .a)) (expressionPart table n (m .b)) (operands h k)
+
+  pub assign-fields : m .kind ≡ 17 → (m .a < variables table) × (expressionPart table n (m .b) ≡ true)
+  unfolding statementFits
+  assign-fields e =
+      let low = ltb (m .a) (variables table) in
+      let value = expressionPart table n (m .b) in
+      let all : (low && value) ≡ true = statement-fits (assign-of m e) in
+      (ltb-true (m .a) (variables table) (both-left low value all), both-right low value all)
+
+  pub sequence-fields : m .kind ≡ 18 → (statementPart table n (m .a) ≡ true) × (statementPart table n (m .b) ≡ true)
+  unfolding statementFits
+  sequence-fields e =
+      let first = statementPart table n (m .a) in
+      let second = statementPart table n (m .b) in
+      let all : (first && second) ≡ true = statement-fits (sequence-of m e) in
+      (both-left first second all, both-right first second all)
+
+  pub branch-fields : m .kind ≡ 19
+      → (expressionPart table n (m .a) ≡ true)
+      × (statementPart table n (m .b) ≡ true)
+      × (statementPart table n (m .c) ≡ true)
+  unfolding statementFits
+  branch-fields e =
+      let test = expressionPart table n (m .a) in
+      let so = statementPart table n (m .b) in
+      let otherwise = statementPart table n (m .c) in
+      let all : (test && so && otherwise) ≡ true = statement-fits (branch-of m e) in
+      let front = both-left (test && so) otherwise all in
+      (both-left test so front, both-right test so front, both-right (test && so) otherwise all)
+
+  pub loop-fields : m .kind ≡ 20 → (expressionPart table n (m .a) ≡ true) × (statementPart table n (m .b) ≡ true)
+  unfolding statementFits
+  loop-fields e =
+      let test = expressionPart table n (m .a) in
+      let again = statementPart table n (m .b) in
+      let all : (test && again) ≡ true = statement-fits (loop-of m e) in
+      (both-left test again all, both-right test again all)
+
+  pub call-field : m .kind ≡ 21 → m .a < procedures table
+  unfolding statementFits
+  call-field e = ltb-true (m .a) (procedures table) (statement-fits (call-of m e))
+
+  pub latch-fields : m .kind ≡ 22 → (expressionPart table n (m .a) ≡ true) × (expressionPart table n (m .b) ≡ true)
+  unfolding statementFits
+  latch-fields e =
+      let place = expressionPart table n (m .a) in
+      let value = expressionPart table n (m .b) in
+      let all : (place && value) ≡ true = statement-fits (latch-of m e) in
+      (both-left place value all, both-right place value all)
+
+  pub broadcast-fields : m .kind ≡ 24
+      → (m .a < variables table)
+      × (expressionPart table n (m .b) ≡ true)
+      × (expressionPart table n (m .c) ≡ true)
+  unfolding statementFits collectiveFits
+  broadcast-fields e =
+      let low = ltb (m .a) (variables table) in
+      let value = expressionPart table n (m .b) in
+      let source = expressionPart table n (m .c) in
+      let all : (low && value && source) ≡ true = statement-fits (broadcast-of m e) in
+      let front = both-left (low && value) source all in (
+        ltb-true (m .a) (variables table) (both-left low value front),
+        both-right low value front,
+        both-right (low && value) source all,
+      )
+
+  pub exchange-field : m .kind ≡ 25 → expressionPart table n (m .a) ≡ true
+  unfolding statementFits collectiveFits
+  exchange-field e = statement-fits (exchange-of m e)
