@@ -13,7 +13,7 @@ use Rattle.rules.specs.WellFormed.{isExpression, isStatement, namedFields, unna
 use Rattle.rules.specs.WellFormed.{expressionParts, collectiveParts, statementParts, partsAt}
 use Rattle.rules.proofs.AnswerLaws.{both-left, both-right}
 use Rattle.scan.specs.Facts.{ofExpression, without, withoutAll}
-use Rattle.scan.specs.Words.{keptIf, combined, joined, branchWord, loopWord, variableWord, assignWord, callWord}
+use Rattle.scan.specs.Words.{keptIf, operationWord, sequenceWord, branchWord, loopWord, variableWord, assignWord, callWord}
 use Rattle.scan.specs.Words.{broadcastWord, first, second, third}
 use Rattle.scan.specs.Words.{expressionWord, collectiveWord, statementWord, nodeWord}
 
@@ -171,7 +171,7 @@ module _ (table facts : List ℕ) (n : ℕ) (strict : Bool) where
   abbrev OfTwo : ℕ → Type 0
   OfTwo word = Comes (keptIf (eqb c 0) word) (without (without facts n a) n b)
 
-  operation-at : (j : ℕ) → kind ≡ 6 + j → j < 7 → OfTwo (combined x y)
+  operation-at : (j : ℕ) → kind ≡ 6 + j → j < 7 → OfTwo (operationWord x y)
   unfolding reading
   operation-at zero e h = record { is = simp e }
   operation-at (suc zero) e h = record { is = simp e }
@@ -183,12 +183,12 @@ module _ (table facts : List ℕ) (n : ℕ) (strict : Bool) where
   operation-at (suc (suc (suc (suc (suc (suc (suc j))))))) e h = absurd (omega arith)
 
   pub operation-reads : {read : ℕ} → read ≡ kind → Rest read → read < 13
-      → OfTwo (combined x y)
+      → OfTwo (operationWord x y)
   operation-reads {read} e rest high =
       let low = from-six read rest in
       operation-at (kind - 6) (omega arith) (omega arith)
 
-  pub sequence-reads : kind ≡ 18 → OfTwo (joined x y)
+  pub sequence-reads : kind ≡ 18 → OfTwo (sequenceWord x y)
   unfolding reading
   sequence-reads e = record { is = simp e }
 
@@ -197,8 +197,8 @@ module _ (table facts : List ℕ) (n : ℕ) (strict : Bool) where
   loop-reads e = record { is = simp e }
 
   pub latch-reads : kind ≡ 22
-      → Instead (keptIf (eqb c 0) (combined x y)) 4 (without (without facts n a) n b)
-  unfolding reading combined
+      → Instead (keptIf (eqb c 0) (operationWord x y)) 4 (without (without facts n a) n b)
+  unfolding reading operationWord
   latch-reads e =
       let kept = kept-replaced (eqb c 0) (ofExpression x && ofExpression y) (bitAnd x y) 4 (some-expressions x y) in
       record { comes = record { is = simp (e, kept) } }

@@ -22,7 +22,7 @@ use Rattle.scan.proofs.ReadParts.{ReadExpression, expression-fits, none
 module _ (table : List ℕ) (n : ℕ) (list facts : List ℕ) (kept : Kept table n list facts) (few : n ≤ 256) where
   pub read-expression : (e : Expression) → (words.expressionWord table facts n e ≡ 0 → ⊥)
       → ReadExpression table n list facts (words.expressionWord table facts n e) e
-  unfolding words.expressionWord words.variableWord words.combined expressionFits expressionParts singleOf withoutAll
+  unfolding words.expressionWord words.variableWord words.operationWord expressionFits expressionParts singleOf withoutAll
   read-expression (constant v) h = record { fits = refl; is = refl; parts = tt; kept = none table n list facts kept }
   read-expression (variable a) h = record {
     fits = kept-test (ltb a (variables table)) _ h;

@@ -124,7 +124,7 @@ module _ (table : List ℕ) (n : ℕ) (list facts : List ℕ) (kept : Kept table
 
   pub read-statement : (strict : Bool) (s : Statement) → (words.statementWord table facts n strict s ≡ 0 → ⊥)
       → ReadStatement table n list facts strict (words.statementWord table facts n strict s) s
-  unfolding words.statementWord words.assignWord words.joined words.branchWord words.loopWord words.callWord
+  unfolding words.statementWord words.assignWord words.sequenceWord words.branchWord words.loopWord words.callWord
       statementFits statementParts effectOf ruleOf withoutAll
   read-statement strict nothing h = record {
     fits = refl;

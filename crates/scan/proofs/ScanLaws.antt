@@ -15,7 +15,7 @@ use Rattle.rules.specs.WellFormed.{expressionParts, statementParts, partsAt, jo
 use Rattle.rules.proofs.ChoiceLaws.{bool-cases}
 use Rattle.rules.proofs.ValueLaws.{single-here, effect-here}
 use Rattle.scan.specs.Facts.{withoutAll}
-use Rattle.scan.specs.Scanned.{Right, expression, statement, Kept, Node, Scanned}
+use Rattle.scan.specs.Scanned.{Right, expression, statement, Kept, NodePassed, Scanned}
 use Rattle.scan.specs.Words.{keptIf, nodeWord, expressionWord, statementWord}
 use Rattle.scan.proofs.CallLaws.{calls-node}
 use Rattle.scan.proofs.FactLaws.{none-kept, one-kept}
@@ -27,7 +27,7 @@ use Rattle.scan.proofs.WordLaws.{kept-test, kept-word, kept-more}
 
 -- what is known of the node, its parts being taken
 record Read (table : List ℕ) (strict : Bool) (n : ℕ) (list facts : List ℕ) (word : ℕ) : Type 0 where
-  node : Node table strict n
+  node : NodePassed table strict n
   right : Right table n word
   kept : Kept table n (list ++ partsAt table n) (withoutAll facts n (partsAt table n))
 

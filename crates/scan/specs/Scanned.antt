@@ -32,7 +32,7 @@ pub record Kept (table : List ℕ) (n : ℕ) (list facts : List ℕ) : Type 0 wh
   pub unread : (k : ℕ) → n ≤ k → (occurrences k list ≡ 0) × (getD facts k 0 ≡ 0)
 
 -- what holds of a node that was read
-pub record Node (table : List ℕ) (strict : Bool) (k : ℕ) : Type 0 where
+pub record NodePassed (table : List ℕ) (strict : Bool) (k : ℕ) : Type 0 where
   pub known : kindKnown table k ≡ true
   pub zero : unnamedZero (nodeAt table k) ≡ true
   pub fits : nodeFits table k ≡ true
@@ -41,10 +41,10 @@ pub record Node (table : List ℕ) (strict : Bool) (k : ℕ) : Type 0 where
 -- the nodes below n are read
 pub record Scanned (table : List ℕ) (strict : Bool) (n : ℕ) (facts : List ℕ) : Type 0 where
   pub kept : Kept table n (joined (partsAt table) n) facts
-  pub passed : (k : ℕ) → k < n → Node table strict k
+  pub passed : (k : ℕ) → k < n → NodePassed table strict k
 
 -- what holds of a procedure whose body was used
-pub record Procedure (table : List ℕ) (strict : Bool) (p : ℕ) : Type 0 where
+pub record ProcedurePassed (table : List ℕ) (strict : Bool) (p : ℕ) : Type 0 where
   pub fits : procedureFits table p ≡ true
   pub statement : isStatement table (body table p) ≡ true
   pub called : (n q : ℕ) → inTree table n (body table p) ≡ true → statementAt table n ≡ call q → q < p
@@ -53,5 +53,5 @@ pub record Procedure (table : List ℕ) (strict : Bool) (p : ℕ) : Type 0 where
 -- all nodes are read, and the bodies of the procedures below p are used
 pub record Entered (table : List ℕ) (strict : Bool) (p : ℕ) (facts : List ℕ) : Type 0 where
   pub kept : Kept table (nodes table) (joined (partsAt table) (nodes table) ++ joined (λ q. body table q ∷ []) p) facts
-  pub passed : (k : ℕ) → k < nodes table → Node table strict k
-  pub entered : (q : ℕ) → q < p → Procedure table strict q
+  pub passed : (k : ℕ) → k < nodes table → NodePassed table strict k
+  pub entered : (q : ℕ) → q < p → ProcedurePassed table strict q

@@ -21,11 +21,11 @@ unfoldable pub guarded : Bool → ℕ → ℕ → ℕ
 guarded strict expression word = cond (strict && (not (eqb expression 3) && eqb (word % 2) 1)) 0 word
 
 -- the word of an operation on two words, single where both are
-unfoldable pub combined : ℕ → ℕ → ℕ
-combined x y = keptIf (ofExpression x && ofExpression y) (bitAnd x y)
+unfoldable pub operationWord : ℕ → ℕ → ℕ
+operationWord x y = keptIf (ofExpression x && ofExpression y) (bitAnd x y)
 
-unfoldable pub joined : ℕ → ℕ → ℕ
-joined x y = keptIf (ofStatement x && ofStatement y) (bitOr x y)
+unfoldable pub sequenceWord : ℕ → ℕ → ℕ
+sequenceWord x y = keptIf (ofStatement x && ofStatement y) (bitOr x y)
 
 unfoldable pub branchWord : Bool → ℕ → ℕ → ℕ → ℕ
 branchWord strict x y z = keptIf (ofExpression x && (ofStatement y && ofStatement z)) (guarded strict x (bitOr y z))
@@ -67,7 +67,7 @@ module _ (table : List ℕ) (facts : List ℕ) (n : ℕ) where
   expressionWord processCount = 3
   expressionWord (door a) = keptIf (ofExpression (first facts n a)) 2
   expressionWord (slot a) = keptIf (ofExpression (first facts n a)) (first facts n a)
-  expressionWord (operation o a b) = combined (first facts n a) (second facts n a b)
+  expressionWord (operation o a b) = operationWord (first facts n a) (second facts n a b)
 
   unfoldable pub collectiveWord : Bool → Collective → ℕ
   collectiveWord strict barrier = 5
@@ -77,7 +77,7 @@ module _ (table : List ℕ) (facts : List ℕ) (n : ℕ) where
   unfoldable pub statementWord : Bool → Statement → ℕ
   statementWord strict nothing = 4
   statementWord strict (assign a b) = assignWord table strict a (first facts n b)
-  statementWord strict (sequence a b) = joined (first facts n a) (second facts n a b)
+  statementWord strict (sequence a b) = sequenceWord (first facts n a) (second facts n a b)
   statementWord strict (branch a b c) = branchWord strict (first facts n a) (second facts n a b) (third facts n a b c)
   statementWord strict (loop a b) = loopWord strict (first facts n a) (second facts n a b)
   statementWord strict (call p) = callWord table p

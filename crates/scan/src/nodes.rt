@@ -8,7 +8,7 @@ ghost use lib.ListN.{length};
 ghost use Rattle.rules.specs.Table.{nodeAt};
 ghost use Rattle.rules.specs.WellFormed.{partsAt};
 ghost use Rattle.scan.specs.Facts.{ofExpression, without, withoutAll};
-ghost use Rattle.scan.specs.Words.{keptIf, guarded, combined, joined, branchWord, loopWord, variableWord, assignWord};
+ghost use Rattle.scan.specs.Words.{keptIf, guarded, operationWord, sequenceWord, branchWord, loopWord, variableWord, assignWord};
 ghost use Rattle.scan.specs.Words.{callWord, broadcastWord, first, second, third, nodeWord};
 ghost use Rattle.table.specs.Sized.{Sized};
 use crate::facts::of_expression;
@@ -102,7 +102,7 @@ fn operand(table: &[u8], header: Header, facts: &mut [u32], n: usize) -> u32
 fn operands(table: &[u8], header: Header, facts: &mut [u32], n: usize) -> u32
     requires { ⌜ Sized (now table) header × (n < header .nodes) × (length (now facts) ≡ 256) ⌝ }
     ensures { λ r. ⌜ r ≡ keptIf (eqb (nodeAt (now (table .entry)) n .c) 0)
-        (combined (first (now (facts .entry)) n (nodeAt (now (table .entry)) n .a))
+        (operationWord (first (now (facts .entry)) n (nodeAt (now (table .entry)) n .a))
         (second (now (facts .entry)) n (nodeAt (now (table .entry)) n .a) (nodeAt (now (table .entry)) n .b))) ⌝ }
     ensures { λ r. ⌜ ((r ≡ 0 → ⊥)
         → now (facts .exit) ≡ without (without (now (facts .entry)) n (nodeAt (now (table .entry)) n .a)) n
@@ -172,7 +172,7 @@ fn assign(table: &[u8], header: Header, facts: &mut [u32], n: usize, strict: boo
 fn sequence(table: &[u8], header: Header, facts: &mut [u32], n: usize) -> u32
     requires { ⌜ Sized (now table) header × (n < header .nodes) × (length (now facts) ≡ 256) ⌝ }
     ensures { λ r. ⌜ r ≡ keptIf (eqb (nodeAt (now (table .entry)) n .c) 0)
-        (joined (first (now (facts .entry)) n (nodeAt (now (table .entry)) n .a))
+        (sequenceWord (first (now (facts .entry)) n (nodeAt (now (table .entry)) n .a))
         (second (now (facts .entry)) n (nodeAt (now (table .entry)) n .a) (nodeAt (now (table .entry)) n .b))) ⌝ }
     ensures { λ r. ⌜ ((r ≡ 0 → ⊥)
         → now (facts .exit) ≡ without (without (now (facts .entry)) n (nodeAt (now (table .entry)) n .a)) n

@@ -1,5 +1,5 @@
 -- `nodes::operands` meets its contract: no word where field C or a part fails, else both parts are taken.
-use Rattle.scan.specs.Words.{combined}
+use Rattle.scan.specs.Words.{operationWord}
 use mathlib.Core.Path.{refl}
 use Rattle.scan.proofs.TestLaws.{passed, failed, kept-zero, refused}
 use mathlib.Core.Bool.{and-false}
@@ -26,7 +26,7 @@ same-length : tie.Need-same-length
 same-length c = search needs
 
 returns-2 : tie.Need-returns-2
-unfolding combined
+unfolding operationWord
 returns-2 c =
     let part = c .before .before .before .before in
     refused
@@ -47,7 +47,7 @@ same-length-2 : tie.Need-same-length-2
 same-length-2 c = search needs
 
 returns-3 : tie.Need-returns-3
-unfolding combined
+unfolding operationWord
 returns-3 c =
     let part = c .before .before .before .before in
     let earlier = part .before .before .before .before .before .before in
@@ -65,7 +65,7 @@ same-length-3 : tie.Need-same-length-3
 same-length-3 c = search needs
 
 returns-4 : tie.Need-returns-4
-unfolding combined
+unfolding operationWord
 returns-4 c =
     let part = c .before .before .before .before in
     let earlier = part .before .before .before .before .before .before in
