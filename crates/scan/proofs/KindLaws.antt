@@ -16,6 +16,7 @@ use Rattle.scan.specs.Facts.{ofExpression, without, withoutAll}
 use Rattle.scan.specs.Words.{keptIf, operationWord, sequenceWord, branchWord, loopWord, variableWord, assignWord, callWord}
 use Rattle.scan.specs.Words.{broadcastWord, first, second, third}
 use Rattle.scan.specs.Words.{expressionWord, collectiveWord, statementWord, nodeWord}
+use Rattle.scan.proofs.WordLaws.{expression-some}
 
 -- a node's word, and what its parts leave of the facts
 pub record Reading : Type 0 where
@@ -61,11 +62,7 @@ Rest kind = Other (Other (Unit {0}) kind 0 6) kind 16 10
 from-six : (kind : ℕ) → Rest kind → 6 ≤ kind
 from-six kind rest = past-those (Unit {0}) kind 0 6 (before-those _ kind 16 10 rest) (omega arith)
 
--- words that are not 0
-some-expression : (x : ℕ) → ofExpression x ≡ true → x ≡ 0 → ⊥
-unfolding ofExpression
-some-expression x e z = omega (arith, eqb-true (x / 2 % 2) 1 e)
-
+-- two expressions have a word that is not 0
 some-expressions : (x y : ℕ) → (ofExpression x && ofExpression y) ≡ true → bitAnd x y ≡ 0 → ⊥
 unfolding ofExpression
 some-expressions x y e z =
@@ -148,7 +145,7 @@ module _ (table facts : List ℕ) (n : ℕ) (strict : Bool) where
   operand = keptIf rest-zero (keptIf (ofExpression x) x)
 
   operand-replaced : (by : ℕ) → replaced operand by ≡ keptIf rest-zero (keptIf (ofExpression x) by)
-  operand-replaced by = kept-replaced rest-zero (ofExpression x) x by (some-expression x)
+  operand-replaced by = kept-replaced rest-zero (ofExpression x) x by (expression-some x)
 
   pub door-reads : kind ≡ 4 → Instead operand 2 (without facts n a)
   unfolding reading
