@@ -38,21 +38,21 @@ module _ (state roll : List ℕ) (count p : ℕ) (words : List ℕ) where
       })
 
 module _ (state roll : List ℕ) (count node : ℕ) (meeting : Collective) where
-  pub arrived : {team : TeamStatus} → allAtOneNode roll count ≡ false → team ≡ teamStatus roll count
-      → Gives (arrivedAt state roll count node meeting) (Taken (record { event = Arrived node; team = team })) state roll
+  pub arrived : {at : ℕ} {team : TeamStatus} → at ≡ node → allAtOneNode roll count ≡ false → team ≡ teamStatus roll count
+      → Gives (arrivedAt state roll count node meeting) (Taken (record { event = Arrived at; team = team })) state roll
   unfolding arrivedAt
-  arrived apart t =
-      rw apart
+  arrived n apart t =
+      rw (n, apart)
       (record { answered = ap (λ s. Taken (record { event = Arrived node; team = s })) t; left = refl; written = refl })
 
-  pub met : {after rolled : List ℕ} {team : TeamStatus} → allAtOneNode roll count ≡ true
+  pub met : {at : ℕ} {after rolled : List ℕ} {team : TeamStatus} → at ≡ node → allAtOneNode roll count ≡ true
       → after ≡ completedState roll count meeting state → rolled ≡ releasedRoll after count roll
       → team ≡ teamStatus rolled count
-      → Gives (arrivedAt state roll count node meeting) (Taken (record { event = Completed node; team = team })) after rolled
+      → Gives (arrivedAt state roll count node meeting) (Taken (record { event = Completed at; team = team })) after rolled
   unfolding arrivedAt completed
-  met together e r t =
+  met n together e r t =
       let released = r ∙ ap (λ s. releasedRoll s count roll) e in
-      rw together
+      rw (n, together)
       (record {
         answered = ap (λ s. Taken (record { event = Completed node; team = s })) (t ∙ ap (λ l. teamStatus l count) released);
         left = e;

@@ -119,11 +119,11 @@ fn meet(
     let n = top(process_at(state, p));
     arrive_in(table, header, state, roll, count, p, node);
     let processes = count as usize;
-    let before = team_status(roll, processes);
     if !all_at_one_node(roll, processes) {
+        let team = team_status(roll, processes);
         return Stepped::Taken(Answer {
             event: Event::Arrived(n),
-            team: before,
+            team,
         });
     }
     complete(state, roll, processes, node);

@@ -1,9 +1,16 @@
 // What the two programs print: the paper's words, on standard output.
+ghost use mathlib.Core.Path.{_≡_};
+ghost use Prim.Native.Nat.{_≤_};
+ghost use lib.ListN.{take};
+ghost use Rattle.rules.specs.Answers.{eventNode, eventWord, teamWord};
 use libc::STDOUT_FILENO;
 use rules::Answer;
 use rules::Event;
 use rules::Refusal;
 use rules::TeamStatus;
+
+// A printed word: some bytes, and how many of them are the word's.
+struct Word([u8; 8], usize);
 
 fn text(bytes: &[u8]) {
     io::write_all(STDOUT_FILENO, bytes);
@@ -31,40 +38,62 @@ pub fn header() {
     text(b"bank what node site\n");
 }
 
-fn event(event: Event) {
+fn event_word(event: Event) -> Word
+    ensures { λ r. ⌜ (r .1 ≤ 8) × (take (r .1) (r .0) ≡ eventWord event) ⌝ }
+{
     match event {
-        Event::Moved => text(b" moved "),
-        Event::Finished => text(b" finished "),
-        Event::Arrived(_) => text(b" arrived "),
-        Event::Completed(_) => text(b" met "),
-        Event::Waiting => text(b" waits "),
-        Event::Ended => text(b" ended "),
+        Event::Moved => Word(*b"moved   ", 5),
+        Event::Finished => Word(*b"finished", 8),
+        Event::Arrived(_) => Word(*b"arrived ", 7),
+        Event::Completed(_) => Word(*b"met     ", 3),
+        Event::Waiting => Word(*b"waits   ", 5),
+        Event::Ended => Word(*b"ended   ", 5),
     }
 }
 
 // "the node for arrived and met, else 0"
-fn node(event: Event) {
+fn event_node(event: Event) -> u32
+    ensures { λ r. ⌜ r ≡ eventNode event ⌝ }
+{
     match event {
-        Event::Arrived(n) => number(n),
-        Event::Completed(n) => number(n),
-        _ => number(0),
+        Event::Moved => 0,
+        Event::Finished => 0,
+        Event::Arrived(n) => n,
+        Event::Completed(n) => n,
+        Event::Waiting => 0,
+        Event::Ended => 0,
     }
 }
 
-fn team(status: TeamStatus) {
-    match status {
-        TeamStatus::Going => text(b" going\n"),
-        TeamStatus::Done => text(b" done\n"),
-        TeamStatus::Deadlocked => text(b" crossed\n"),
+fn team_word(team: TeamStatus) -> Word
+    ensures { λ r. ⌜ (r .1 ≤ 8) × (take (r .1) (r .0) ≡ teamWord team) ⌝ }
+{
+    match team {
+        TeamStatus::Going => Word(*b"going   ", 5),
+        TeamStatus::Done => Word(*b"done    ", 4),
+        TeamStatus::Deadlocked => Word(*b"crossed ", 7),
     }
+}
+
+fn print(bytes: &[u8; 8], size: usize)
+    requires { ⌜ size ≤ 8 ⌝ }
+{
+    let whole = &bytes[..];
+    text(&whole[0..size]);
 }
 
 // "bank, what happened .., the node for arrived and met, else 0, and the site"
 pub fn turn(bank: u32, answer: Answer) {
     let happened = answer.event;
     let status = answer.team;
+    let what = event_word(happened);
+    let site = team_word(status);
     number(bank);
-    event(happened);
-    node(happened);
-    team(status);
+    text(b" ");
+    print(&what.0, what.1);
+    text(b" ");
+    number(event_node(happened));
+    text(b" ");
+    print(&site.0, site.1);
+    text(b"\n");
 }
