@@ -36,8 +36,8 @@ impl Status {
 
 impl Arrival {
     /// The record of `process`, or `None` if the roll lacks it or its status is none.
-    pub fn of(roll: &[u32], process: usize) -> Option<Arrival> {
-        let record = roll.chunks_exact(ROLL_WORDS).nth(process)?;
+    pub fn of(roll: &[u32], process: u32) -> Option<Arrival> {
+        let record = roll.chunks_exact(ROLL_WORDS).nth(process as usize)?;
         Some(Arrival {
             status: Status::of(record[0])?,
             node: record[1],
