@@ -3,4 +3,3 @@ pub mod HeaderLaws
 pub mod NodeLaws
 pub mod PlaneLaws
 pub mod RuleLaws
-pub mod ScratchLaws

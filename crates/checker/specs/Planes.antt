@@ -16,10 +16,6 @@ use Rattle.table.specs.declared.Header.{Header}
 abbrev pub planeWords : ℕ
 planeWords = 16
 
--- with the eight words of marks before them, the scratch that is in use
-abbrev pub usedWords : ℕ
-usedWords = 8 + planeWords
-
 abbrev pub singleBit : List ℕ → ℕ → Bool
 singleBit planes n = bitAt planes n
 

@@ -5,14 +5,14 @@ ghost use Rattle.rules.specs.Acceptance.{scratchWords, judged, checked, checked
 ghost use Rattle.rules.specs.Answers.{_then_};
 ghost use Rattle.rules.specs.WellFormed.{wellFormed};
 ghost use Rattle.rules.specs.declared.Verdict.the-variants.{Accepted};
-ghost use Rattle.checker.specs.Planes.{planeWords, usedWords};
+ghost use Rattle.checker.specs.Planes.{planeWords};
 use crate::judgement::judge_nodes;
 use crate::questions::ask;
 use rules::Verdict;
 use scan::passes;
+use scan::well_formed;
 use table::marks::clear;
 use table::shape::refused;
-use table::well_formed;
 use table::words::header;
 
 mod judgement; // judgement.rt: single values and effects as bits
@@ -21,11 +21,8 @@ mod questions; // questions.rt: questions 13 to 17
 // What question 1 asks for.
 const SCRATCH_WORDS: usize = 256;
 
-// The marks of questions 2 to 12.
-const MARK_WORDS: usize = 8;
-
-// The marks, then the planes of questions 13 to 17.
-const USED_WORDS: usize = 24;
+// The planes of questions 13 to 17.
+const PLANE_WORDS: usize = 16;
 
 // Questions 13 to 17.
 fn judge(table: &[u8], planes: &mut [u32]) -> Verdict
@@ -37,14 +34,14 @@ fn judge(table: &[u8], planes: &mut [u32]) -> Verdict
     ask(table, counts, planes)
 }
 
-// Questions 2 to 17, one by one.
+// Questions 2 to 17, one by one as soon as a pass fails.
 fn answer(table: &[u8], words: &mut [u32]) -> Verdict
-    requires { ⌜ now words ≡ replicate usedWords 0 ⌝ }
+    requires { ⌜ now words ≡ replicate scratchWords 0 ⌝ }
     ensures { λ r. ⌜ r ≡ (wellFormed (now (table .entry)) then judged (now (table .entry))) ⌝ }
 {
-    let verdict = well_formed(table, &mut words[0..MARK_WORDS]);
+    let verdict = well_formed(table, words);
     match verdict {
-        Verdict::Accepted => judge(table, &mut words[MARK_WORDS..USED_WORDS]),
+        Verdict::Accepted => judge(table, &mut words[0..PLANE_WORDS]),
         Verdict::Refused(_) => verdict,
     }
 }
@@ -60,7 +57,7 @@ fn answer_in(table: &[u8], words: &mut [u32]) -> Verdict
         return Verdict::Accepted;
     }
     clear(words);
-    let verdict = answer(table, &mut words[0..USED_WORDS]);
+    let verdict = answer(table, words);
     clear(words);
     verdict
 }

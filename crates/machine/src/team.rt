@@ -55,7 +55,8 @@ pub fn start(
         (started (now (table .entry)) processes (now (words .entry)) (now (state .entry)) (now (roll .entry)))
         r (now (state .exit)) (now (roll .exit)) ⌝ }
 {
-    let formed = well_formed(table);
+    let mut facts = [0u32; 256];
+    let formed = well_formed(table, &mut facts);
     match formed {
         Verdict::Refused(refusal) => Verdict::Refused(refusal),
         Verdict::Accepted => start_formed(table, processes, words, state, roll),
@@ -95,7 +96,8 @@ pub fn step(table: &[u8], state: &mut [u32], roll: &mut [u32], process: u32) -> 
     ensures { λ r. ⌜ Gives (stepped (now (table .entry)) (now (state .entry)) (now (roll .entry)) process)
         r (now (state .exit)) (now (roll .exit)) ⌝ }
 {
-    let formed = well_formed(table);
+    let mut facts = [0u32; 256];
+    let formed = well_formed(table, &mut facts);
     match formed {
         Verdict::Refused(refusal) => Stepped::Refused(refusal),
         Verdict::Accepted => step_formed(table, state, roll, process),

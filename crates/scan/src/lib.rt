@@ -16,6 +16,7 @@ use crate::nodes::scan_node;
 use rules::Verdict;
 use table::Header;
 use table::fields::procedure_fits;
+use table::marks::clear;
 use table::shape::shape;
 use table::words::body;
 use table::words::effect_flag;
@@ -23,6 +24,9 @@ use table::words::header;
 
 mod facts; // facts.rt: the words kept
 mod nodes; // nodes.rt: the word of a node from those of its parts
+
+// What the questions one by one keep their marks in.
+const MARK_WORDS: usize = 8;
 
 fn scan_nodes(table: &[u8], header: Header, facts: &mut [u32], strict: bool) -> bool
     requires { ⌜ Sized (now table) header × (now facts ≡ replicate 256 0) ⌝ }
@@ -124,14 +128,14 @@ pub fn passes(table: &[u8], facts: &mut [u32], strict: bool) -> bool
     none_left(facts, counts.nodes)
 }
 
-// Questions 2 to 12: the pass, and only where it fails the questions one by one.
-pub fn well_formed(table: &[u8]) -> Verdict
-    ensures { λ r. ⌜ r ≡ wellFormed (now (table .entry)) ⌝ }
+// Questions 2 to 12, over 256 words that are zero and are left so: the pass, and only where it fails the questions one by one.
+pub fn well_formed(table: &[u8], words: &mut [u32]) -> Verdict
+    requires { ⌜ now words ≡ replicate 256 0 ⌝ }
+    ensures { λ r. ⌜ (r ≡ wellFormed (now (table .entry))) × (now (words .exit) ≡ replicate 256 0) ⌝ }
 {
-    let mut facts = [0u32; 256];
-    if passes(table, &mut facts, false) {
+    if passes(table, words, false) {
         return Verdict::Accepted;
     }
-    let mut marks = [0u32; 8];
-    table::well_formed(table, &mut marks)
+    clear(words);
+    table::well_formed(table, &mut words[0..MARK_WORDS])
 }

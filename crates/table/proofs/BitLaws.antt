@@ -144,6 +144,6 @@ pub bit-clear : (m : List ℕ) (n : ℕ) → bitAt m n ≡ false → hasBit (get
 unfolding bitAt
 bit-clear m n e = e
 
--- eight words cleared
-pub cleared : (after m : List ℕ) → after ≡ replicate (length m) 0 → length m ≡ 8 → after ≡ replicate 8 0
-cleared after m e eight = e ∙ ap (λ (k : ℕ). replicate k 0) eight
+-- words cleared, of a known number
+pub cleared : {n : ℕ} (after m : List ℕ) → after ≡ replicate (length m) 0 → length m ≡ n → after ≡ replicate n 0
+cleared after m e size = e ∙ ap (λ (k : ℕ). replicate k 0) size

@@ -1,19 +1,10 @@
--- `answer` meets its contract: the first eight words come back zero, and the planes are zero when they are lent.
+-- `answer` meets its contract: the words come back zero, so the planes are zero when they are lent.
 use mathlib.Core.Path.{sym, _∙_, ap}
 use native.Mathlib.Omega.{arith}
 use lib.ListN.{length}
 use borrow.Author.Needs.{needs}
 use Rattle.checker.proofs.answer.Statement.{statement}
 use Rattle.checker.proofs.answer.Tie as tie
-
-sub-well-formed : tie.Need-sub-well-formed
-sub-well-formed c = search needs
-
-part-well-formed-start : tie.Need-part-well-formed-start
-part-well-formed-start c = search needs
-
-part-well-formed-end : tie.Need-part-well-formed-end
-part-well-formed-end c = omega (arith, ap length (c .before .before .pre))
 
 well-formed-requires : tie.Need-well-formed-requires
 well-formed-requires c κs = search needs
@@ -28,15 +19,12 @@ part-judge-start : tie.Need-part-judge-start
 part-judge-start c = search needs
 
 part-judge-end : tie.Need-part-judge-end
-part-judge-end c =
-    let wf = c .before .before .before .before .well-formed .ensures in
-    rw (wf .1, c .before .before .before .before .before .before .before .before .pre) (omega arith)
+part-judge-end c = omega (arith, ap length (c .before .before .before .before .well-formed .ensures .1))
 
 judge-requires : tie.Need-judge-requires
 judge-requires c κs =
-    let formed = c .before .before .before .before .before in
-    let zero = formed .before .before .before .before .pre in
-    (sym (formed .well-formed .ensures .0) ∙ c .before .enum-told .given .1, rw (formed .well-formed .ensures .1, zero))
+    let formed = c .before .before .before .before .before .well-formed .ensures in
+    (sym (formed .0) ∙ c .before .enum-told .given .1, rw (formed .1))
 
 enum-told-2 : tie.Need-enum-told-2
 enum-told-2 c = search needs
@@ -46,24 +34,21 @@ same-length c = search needs
 
 returns : tie.Need-returns
 returns c =
-    let wf = c .before .before .before .before .before .before .before .before .well-formed .ensures in
-    simp (c .before .before .judge .ensures, ← wf .0, c .before .before .before .before .enum-told .given .1)
+    let formed = c .before .before .before .before .before .before .before .before .well-formed .ensures in
+    simp (c .before .before .judge .ensures, ← formed .0, c .before .before .before .before .enum-told .given .1)
 
 same-length-2 : tie.Need-same-length-2
 same-length-2 c = search needs
 
 returns-2 : tie.Need-returns-2
 returns-2 c =
-    let wf = c .before .before .before .before .well-formed .ensures in
-    simp (← wf .0, c .enum-told2 .given .1)
+    let formed = c .before .before .before .before .well-formed .ensures in
+    simp (← formed .0, c .enum-told2 .given .1)
 
 pub answer-spec : {M : Type 1} → statement M
 answer-spec =
     tie.close
     (tie.spec
-    sub-well-formed
-    part-well-formed-start
-    part-well-formed-end
     well-formed-requires
     enum-told
     sub-judge

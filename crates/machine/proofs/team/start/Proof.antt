@@ -5,6 +5,9 @@ use borrow.Author.Needs.{needs}
 use Rattle.machine.proofs.team.start.Statement.{statement}
 use Rattle.machine.proofs.team.start.Tie as tie
 
+slice-aggregate-well-formed : tie.Need-slice-aggregate-well-formed
+slice-aggregate-well-formed c = search needs
+
 well-formed-requires : tie.Need-well-formed-requires
 well-formed-requires c κs = search needs
 
@@ -15,10 +18,10 @@ enum-told : tie.Need-enum-told
 enum-told c = search needs
 
 start-formed-requires : tie.Need-start-formed-requires
-start-formed-requires c κs = sym (c .before .before .before .before .well-formed .ensures) ∙ c .before .before .enum-told .given .1
+start-formed-requires c κs = sym (c .before .before .before .before .before .well-formed .ensures .0) ∙ c .before .before .enum-told .given .1
 
 returns : tie.Need-returns
-returns c = refused-form _ _ _ _ _ (sym (c .before .before .before .well-formed .ensures) ∙ c .before .formed .given .1)
+returns c = refused-form _ _ _ _ _ (sym (c .before .before .before .before .well-formed .ensures .0) ∙ c .before .formed .given .1)
 
 same-length : tie.Need-same-length
 same-length c = search needs
@@ -33,6 +36,7 @@ pub start-spec : {M : Type 1} → statement M
 start-spec =
     tie.close
     (tie.spec
+    slice-aggregate-well-formed
     well-formed-requires
     enum-known-formed
     enum-told

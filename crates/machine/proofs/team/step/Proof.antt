@@ -5,6 +5,9 @@ use borrow.Author.Needs.{needs}
 use Rattle.machine.proofs.team.step.Statement.{statement}
 use Rattle.machine.proofs.team.step.Tie as tie
 
+slice-aggregate-well-formed : tie.Need-slice-aggregate-well-formed
+slice-aggregate-well-formed c = search needs
+
 well-formed-requires : tie.Need-well-formed-requires
 well-formed-requires c κs = search needs
 
@@ -15,10 +18,10 @@ enum-told : tie.Need-enum-told
 enum-told c = search needs
 
 step-formed-requires : tie.Need-step-formed-requires
-step-formed-requires c κs = sym (c .before .before .before .before .well-formed .ensures) ∙ c .before .before .enum-told .given .1
+step-formed-requires c κs = sym (c .before .before .before .before .before .well-formed .ensures .0) ∙ c .before .before .enum-told .given .1
 
 returns : tie.Need-returns
-returns c = denied-form _ _ _ _ (sym (c .before .before .before .well-formed .ensures) ∙ c .before .formed .given .1)
+returns c = denied-form _ _ _ _ (sym (c .before .before .before .before .well-formed .ensures .0) ∙ c .before .formed .given .1)
 
 same-length : tie.Need-same-length
 same-length c = search needs
@@ -33,6 +36,7 @@ pub step-spec : {M : Type 1} → statement M
 step-spec =
     tie.close
     (tie.spec
+    slice-aggregate-well-formed
     well-formed-requires
     enum-known-formed
     enum-told

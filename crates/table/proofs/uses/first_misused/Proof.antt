@@ -41,7 +41,7 @@ returns c =
       once-answer t (s .nodes-high) (c .before .before .before .before .before .before .before .before .before .before .before .before .before .before .before .before .before .args .marks .now) _ _ (c .before .before .before .before .before .before .before .before .before .before .before .before .before .note-nodes .result) (c .before .before .before .before .before .before .before .before .before .note-bodies .result)
           (c .before .before .before .before .before .first-unmarked .result) (c .smaller .result) (c .before .before .before .before .before .before .before .before .before .before .before .before .before .before .before .before .before .args .header .nodes) (c .before .before .before .before .before .before .before .before .before .before .before .before .before .before .before .before .before .pre .1) (s .nodes-read)
           (c .before .before .before .before .before .before .before .before .before .before .before .before .before .note-nodes .ensures) (c .before .before .before .before .before .before .before .before .before .note-bodies .ensures) (c .before .before .before .before .before .first-unmarked .ensures) (c .smaller .ensures),
-      cleared _ (c .before .before .before .before .before .before .before .before .before .note-bodies .last .1 .1 .0) (c .before .before .before .clear .ensures)
+      cleared {n = 8} _ (c .before .before .before .before .before .before .before .before .before .note-bodies .last .1 .1 .0) (c .before .before .before .clear .ensures)
           (omega (arith, c .before .before .before .before .before .before .before .before .before .note-bodies .kept, c .before .before .before .before .before .before .before .before .before .before .before .before .before .note-nodes .kept, ap length (c .before .before .before .before .before .before .before .before .before .before .before .before .before .before .before .before .before .pre .1))),
     )
 
