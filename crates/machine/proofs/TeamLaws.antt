@@ -31,7 +31,8 @@ module _ {table : List ℕ} {header : Header} {state roll : List ℕ} {count p :
   pub ready-statement : isStatement table (top (processAt state p)) ≡ true
   ready-statement = run-statement (r .team) (r .within) (r .fits p (r .within)) runs
 
-  pub ready-topped : {m : Node} → m ≡ nodeAt table (top (processAt state p)) → Topped table header (processAt state p) count m
+  pub ready-topped : {m : Node} → m ≡ nodeAt table (top (processAt state p))
+      → Topped table header (processAt state p) count m
   ready-topped e = run-topped (r .team) (r .within) (r .fits p (r .within)) runs e
 
   -- 24: a full stack has no statement on top that needs a place

@@ -12,8 +12,10 @@ use Rattle.rules.specs.declared.Stepped.the-variants.{Refused}
 use Rattle.rules.specs.declared.Verdict.{Verdict}
 use Rattle.rules.specs.declared.Verdict.the-variants.{Accepted, Refused as Failed}
 use Rattle.rules.specs.Answers.{_then_, askEach}
-use Rattle.rules.specs.Start.{question18, question19, question20, question21, startSize, startVerdict, startState, startRoll, started, startedBy}
-use Rattle.rules.specs.Step.{processesIn, question22, question23, question24, processFits, placeLacked, stepVerdict, stepTaken, steppedBy, stepped}
+use Rattle.rules.specs.Start.{question18, question19, question20, question21}
+use Rattle.rules.specs.Start.{startSize, startVerdict, startState, startRoll, started, startedBy}
+use Rattle.rules.specs.Step.{question22, question23, question24, processesIn, processFits, placeLacked}
+use Rattle.rules.specs.Step.{stepVerdict, stepTaken, steppedBy, stepped}
 use Rattle.rules.specs.WellFormed.{wellFormed}
 use Rattle.rules.proofs.AnswerLaws.{both-left, both-right, then-first, then-rest, ask-holds, each-passed}
 use Rattle.table.specs.declared.Header.{Header}
@@ -57,7 +59,8 @@ module _ (table state roll : List ℕ) (p : ℕ) where
       (then-assoc (question21 (processesIn roll) roll) (question20 (processesIn roll) state)
       (process table state roll (processesIn roll) p))
 
-  denied : {r : Refusal} → stepVerdict table state roll p ≡ Failed r → Gives (stepped table state roll p) (Refused r) state roll
+  denied : {r : Refusal} → stepVerdict table state roll p ≡ Failed r
+      → Gives (stepped table state roll p) (Refused r) state roll
   unfolding stepped steppedBy
   denied e = rw e (record { answered = refl; left = refl; written = refl })
 
@@ -65,7 +68,8 @@ module _ (table state roll : List ℕ) (p : ℕ) where
   denied-form e = denied (in-parts ∙ after-refusal _ e)
 
   module _ (formed : wellFormed table ≡ Accepted) where
-    pub denied-sizes : {r : Refusal} → sizes state roll ≡ Failed r → Gives (stepped table state roll p) (Refused r) state roll
+    pub denied-sizes : {r : Refusal} → sizes state roll ≡ Failed r
+        → Gives (stepped table state roll p) (Refused r) state roll
     denied-sizes e = denied (in-parts ∙ after-accepted _ formed ∙ after-refusal _ e)
 
     module _ (sized : sizes state roll ≡ Accepted) where
@@ -98,7 +102,8 @@ module _ (table state roll : List ℕ) (p : ℕ) where
           }
 
 -- questions 22 to 24 hold
-module _ {table : List ℕ} {header : Header} {state roll : List ℕ} {count : ℕ} (p : ℕ) (team : Team table header state roll count)
+module _ {table : List ℕ} {header : Header} {state roll : List ℕ} {count : ℕ} (p : ℕ)
+    (team : Team table header state roll count)
     (holds : process table state roll count p ≡ Accepted) where
   within : ltb p count ≡ true
   within = holds-so (ltb p count) (record { number = 22; place = p }) (then-first (question22 count p) _ holds)
@@ -135,7 +140,8 @@ module _ (table : List ℕ) (count : ℕ) (words state roll : List ℕ) where
   refused-form e = refused-start (after-refusal asked e)
 
   module _ (formed : wellFormed table ≡ Accepted) where
-    pub refused-asked : {r : Refusal} → asked ≡ Failed r → Starts (started table count words state roll) (Failed r) state roll
+    pub refused-asked : {r : Refusal} → asked ≡ Failed r
+        → Starts (started table count words state roll) (Failed r) state roll
     unfolding startVerdict
     refused-asked e = refused-start (after-accepted asked formed ∙ e)
 
@@ -165,7 +171,8 @@ module _ (table : List ℕ) (count : ℕ) (words state roll : List ℕ) where
             stated = eqb-true (length state) (329 * count) (ask-holds 20 _ (then-first (question20 count state) _ after19));
           }
 
-      pub taken-start : {after rolled : List ℕ} → after ≡ startState table count words state → rolled ≡ startRoll count roll
+      pub taken-start : {after rolled : List ℕ} → after ≡ startState table count words state
+          → rolled ≡ startRoll count roll
           → Starts (started table count words state roll) Accepted after rolled
       unfolding started startedBy startVerdict
       taken-start s l =

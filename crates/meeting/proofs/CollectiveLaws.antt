@@ -45,7 +45,8 @@ module _ (m : Node) where
       ]
 
 -- what a process whose top statement is a collective evaluates
-module _ {table : List ℕ} {header : Header} {words : List ℕ} {count : ℕ} {m : Node} (t : Topped table header words count m) where
+module _ {table : List ℕ} {header : Header} {words : List ℕ} {count : ℕ} {m : Node}
+    (t : Topped table header words count m) where
   pub broadcast-fits : m .kind ≡ 24 → (m .a < 32) × Part table (m .b) × Part table (m .c)
   broadcast-fits e =
       let f = broadcast-fields table (top-formed t) (top words) m (t .here) e in

@@ -24,7 +24,8 @@ unfolding nodeAt unpacked
 packed table n = record { a-low = omega arith; b-low = omega arith; c-low = omega arith }
 
 -- kinds 6 to 12 are the operators in their order
-pub operator-of : (m : Node) → 6 ≤ m .kind → m .kind ≤ 12 → expressionOf m ≡ operation (operatorOf (m .kind)) (m .a) (m .b)
+pub operator-of : (m : Node) → 6 ≤ m .kind → m .kind ≤ 12
+    → expressionOf m ≡ operation (operatorOf (m .kind)) (m .a) (m .b)
 unfolding operatorOf
 operator-of m h k = operation-of m h k
 

@@ -15,7 +15,8 @@ pub lent : (state : List ℕ) (p : ℕ) → take (329 * p + 329 - 329 * p) (drop
 unfolding processAt
 lent state p = rw (part-size p)
 
-pub back : (state words : List ℕ) (p : ℕ) → putMid (329 * p) (329 * p + 329 - 329 * p) state words ≡ withProcess state p words
+pub back : (state words : List ℕ) (p : ℕ)
+    → putMid (329 * p) (329 * p + 329 - 329 * p) state words ≡ withProcess state p words
 unfolding withProcess
 back state words p = rw (part-size p)
 

@@ -17,4 +17,5 @@ product-fits {x} {y} h k =
 pub operator-both : (kind : ℕ) → 12 ≤ kind → operatorOf kind ≡ both
 unfolding operatorOf
 operator-both kind h =
-    List·getD-eq-default (sum ∷ difference ∷ product ∷ quotient ∷ less ∷ equal ∷ []) both {n = kind - 6} (omega arith)
+    List·getD-eq-default (sum ∷ difference ∷ product ∷ quotient ∷ less ∷ equal ∷ []) both
+    {n = kind - 6} (omega arith)

@@ -14,13 +14,16 @@ use Rattle.rules.proofs.ChoiceLaws.{bool-cases}
 use Rattle.rules.proofs.StackLaws.{set-depth}
 use Rattle.process.specs.Given.{Stacked}
 
-pub stacked-by : {words others : List ℕ} → length others ≡ length words → depth others ≡ depth words → Stacked words → Stacked others
+pub stacked-by : {words others : List ℕ} → length others ≡ length words → depth others ≡ depth words
+    → Stacked words
+    → Stacked others
 stacked-by l d s = record { sized = l ∙ s .sized; held = rw d (s .held); bounded = rw d (s .bounded) }
 
 pub stacked-set : (words : List ℕ) (a v : ℕ) → a < 72 → Stacked words → Stacked (set words a v)
 stacked-set words a v h s = stacked-by (length-set words a v) (set-depth words a v h) s
 
-pub stacked-latch : (words : List ℕ) (place v : ℕ) → Stacked words → Stacked (cond (ltb place doors) (set words (latchesAt + place) v) words)
+pub stacked-latch : (words : List ℕ) (place v : ℕ) → Stacked words
+    → Stacked (cond (ltb place doors) (set words (latchesAt + place) v) words)
 stacked-latch words place v s =
     ⊎-elim
     (λ (e : ltb place doors ≡ true).

@@ -48,7 +48,8 @@ module _ (table : List ℕ) (n : ℕ) (m : Node) (here : m ≡ nodeAt table n) w
       (leb-true (nodeAt table n .kind) 25 (both-right (leb 16 (nodeAt table n .kind)) (leb (nodeAt table n .kind) 25) e))
 
 -- the top statement of a process
-module _ {table : List ℕ} {header : Header} {words : List ℕ} {count : ℕ} {m : Node} (t : Topped table header words count m) where
+module _ {table : List ℕ} {header : Header} {words : List ℕ} {count : ℕ} {m : Node}
+    (t : Topped table header words count m) where
   pub top-formed : Formed table
   top-formed = formed table (t .given .read .well-formed)
 
@@ -74,7 +75,8 @@ module _ {table : List ℕ} {header : Header} {words : List ℕ} {count : ℕ} {
   top-test e = top-part (loop-fields table top-formed (top words) m (t .here) e .0)
 
 -- what each kind's function asks of a process whose turn it is
-module _ {table : List ℕ} {header : Header} {words : List ℕ} {own count : ℕ} {m : Node} (t : Turn table header words own count m) where
+module _ {table : List ℕ} {header : Header} {words : List ℕ} {own count : ℕ} {m : Node}
+    (t : Turn table header words own count m) where
   shape : Formed table
   shape = top-formed (t .topped)
 
@@ -95,7 +97,9 @@ module _ {table : List ℕ} {header : Header} {words : List ℕ} {own count : �
   pub turn-loop : m .kind ≡ 20 → Given table header words count × Stacked words × Part table (m .a)
   turn-loop e = (t .topped .given, t .topped .stacked, top-test (t .topped) e)
 
-  pub turn-repeat : m .kind ≡ 20 → needsPlace table (environment words own count) (loop (m .a) (m .b)) ≡ true → depth words < 256
+  pub turn-repeat : m .kind ≡ 20
+      → needsPlace table (environment words own count) (loop (m .a) (m .b)) ≡ true
+      → depth words < 256
   turn-repeat e n = t .place (rw (top-statement (t .topped) (loop-of m e)) n)
 
   called : m .kind ≡ 21 → m .a < procedures table

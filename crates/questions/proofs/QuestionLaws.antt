@@ -28,7 +28,8 @@ statement-past table formed n l =
     (bool-cases (isStatement table n))
 
 -- the top of a stack that holds an entry is a statement
-pub top-fits : (table words : List ℕ) → stackFits table words ≡ true → 1 ≤ depth words → isStatement table (top words) ≡ true
+pub top-fits : (table words : List ℕ) → stackFits table words ≡ true → 1 ≤ depth words
+    → isStatement table (top words) ≡ true
 unfolding stackFits top
 top-fits table words e l =
     let at : 73 + (depth words - 1) ≡ 72 + depth words = omega arith in
@@ -49,7 +50,8 @@ record-empty table words roll p u e =
     (bool-cases (eqb (statusAt roll p) 0))
 
 -- only kinds 18 and 20 can need a stack place
-needs-at : (table : List ℕ) (env : Environment) (m : Node) (j : ℕ) → m .kind - 16 ≡ j → j < 10 → (m .kind ≡ 18 → ⊥)
+needs-at : (table : List ℕ) (env : Environment) (m : Node) (j : ℕ) → m .kind - 16 ≡ j → j < 10
+    → (m .kind ≡ 18 → ⊥)
     → (m .kind ≡ 20 → ⊥) → needsPlace table env (statementOf m) ≡ false
 unfolding statementOf needsPlace
 needs-at table env m zero e h n l = rw e
@@ -64,7 +66,8 @@ needs-at table env m (suc (suc (suc (suc (suc (suc (suc (suc zero)))))))) e h n 
 needs-at table env m (suc (suc (suc (suc (suc (suc (suc (suc (suc zero))))))))) e h n l = rw e
 needs-at table env m (suc (suc (suc (suc (suc (suc (suc (suc (suc (suc j)))))))))) e h n l = absurd (omega arith)
 
-pub needs-other : (table : List ℕ) (env : Environment) (m : Node) → m .kind ≤ 25 → (m .kind ≡ 18 → ⊥) → (m .kind ≡ 20 → ⊥)
+pub needs-other : (table : List ℕ) (env : Environment) (m : Node) → m .kind ≤ 25 → (m .kind ≡ 18 → ⊥)
+    → (m .kind ≡ 20 → ⊥)
     → needsPlace table env (statementOf m) ≡ false
 needs-other table env m h n l = needs-at table env m (m .kind - 16) refl (omega arith) n l
 

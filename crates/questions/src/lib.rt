@@ -3,7 +3,7 @@ ghost use mathlib.Core.Bool.{true};
 ghost use mathlib.Core.Path.{_≡_};
 ghost use Prim.Native.Nat.{_<_};
 ghost use Rattle.rules.specs.declared.Verdict.the-variants.{Accepted};
-ghost use Rattle.rules.specs.Answers.{_then_, refused};
+ghost use Rattle.rules.specs.Answers.{_then_};
 ghost use Rattle.rules.specs.Process.{environment, top, needsPlace};
 ghost use Rattle.rules.specs.Start.{question18, question19, question20, question21};
 ghost use Rattle.rules.specs.Step.{processesIn, processFits, placeLacked, question22, question23, question24};
@@ -18,19 +18,13 @@ use process::evaluation::evaluate;
 use process::process::process_at;
 use process::process::top;
 use rules::Node;
-use rules::Refusal;
 use rules::Verdict;
 use table::Header;
+use table::shape::refused;
 use table::words::header;
 use table::words::node_at;
 
 pub mod fitting; // fitting.rt: question 23 of one process after another
-
-pub fn refuse(number: u32, place: u32) -> Verdict
-    ensures { λ r. ⌜ r ≡ refused number place ⌝ }
-{
-    Verdict::Refused(Refusal { number, place })
-}
 
 // Questions 18 to 21 of a start.
 pub fn start_asked(
@@ -47,21 +41,21 @@ pub fn start_asked(
         then question21 processes (now (roll .entry))) ⌝ }
 {
     if processes < 1 {
-        return refuse(18, 0);
+        return refused(18, 0);
     }
     if processes > 16 {
-        return refuse(18, 0);
+        return refused(18, 0);
     }
     let count = processes as usize;
     let size = header(table).variables + 12;
     if words.len() != size * count {
-        return refuse(19, 0);
+        return refused(19, 0);
     }
     if state.len() != 329 * count {
-        return refuse(20, 0);
+        return refused(20, 0);
     }
     if roll.len() != 4 * count {
-        return refuse(21, 0);
+        return refused(21, 0);
     }
     Verdict::Accepted
 }
@@ -73,16 +67,16 @@ pub fn sizes_asked(state: &[u32], roll: &[u32]) -> Verdict
 {
     let count = roll.len() / 4;
     if roll.len() != 4 * count {
-        return refuse(21, 0);
+        return refused(21, 0);
     }
     if count < 1 {
-        return refuse(21, 0);
+        return refused(21, 0);
     }
     if count > 16 {
-        return refuse(21, 0);
+        return refused(21, 0);
     }
     if state.len() != 329 * count {
-        return refuse(20, 0);
+        return refused(20, 0);
     }
     Verdict::Accepted
 }
@@ -149,17 +143,17 @@ pub fn process_asked(
         then question24 (now (table .entry)) (now (state .entry)) (now (roll .entry)) count process) ⌝ }
 {
     if process >= count {
-        return refuse(22, process);
+        return refused(22, process);
     }
     let unfit = first_unfit(table, header, state, roll, count as usize);
     if unfit < count as usize {
-        return refuse(23, unfit as u32);
+        return refused(23, unfit as u32);
     }
     if all_at_one_node(roll, count as usize) {
-        return refuse(23, 0);
+        return refused(23, 0);
     }
     if place_lacked(table, header, state, roll, count, process as usize) {
-        return refuse(24, process);
+        return refused(24, process);
     }
     Verdict::Accepted
 }

@@ -21,7 +21,8 @@ all-more test n =
     ⊎-elim
     (λ (e : allBelow test n ≡ true).
     ⊎-elim
-    (λ (t : test n ≡ true). all-true test (n + 1) (below-more (λ k. test k ≡ true) n (all-at test n e) t) ∙ sym (simp (e, t)))
+    (λ (t : test n ≡ true). all-true test (n + 1) (below-more (λ k. test k ≡ true) n (all-at test n e) t)
+    ∙ sym (simp (e, t)))
     (λ (t : test n ≡ false). all-false test (n + 1) n (omega arith) t ∙ sym (simp (e, t)))
     (bool-cases (test n)))
     (λ (e : allBelow test n ≡ false).

@@ -18,7 +18,8 @@ use Rattle.table.specs.Sized.{Sized}
 use Rattle.table.specs.Uses.{Fitting}
 use Rattle.table.proofs.RoleLaws.{fits-law}
 
-pub fitting : (table : List ℕ) (header : Header) → Sized table header → contentsVerdict table ≡ Accepted → Fitting table header
+pub fitting : (table : List ℕ) (header : Header) → Sized table header → contentsVerdict table ≡ Accepted
+    → Fitting table header
 unfolding contentsVerdict procedureFits
 fitting table header s e =
     let after6 = then-rest (question6 table) _ e in
@@ -34,7 +35,9 @@ fitting table header s e =
     }
 
 -- a part that fits lies below its node
-part-below : (table : List ℕ) (n role value : ℕ) → fieldFits table n role value ≡ true → (eqb role 2 || eqb role 3) ≡ true → value < n
+part-below : (table : List ℕ) (n role value : ℕ) → fieldFits table n role value ≡ true
+    → (eqb role 2 || eqb role 3) ≡ true
+    → value < n
 unfolding fieldFits expressionPart statementPart
 part-below table n role value fits part =
     ⊎-elim
@@ -65,11 +68,16 @@ module _ (table : List ℕ) (header : Header) (f : Fitting table header) (n : �
   later = both-right a-fits (b-fits && c-fits) fields
 
   -- each field that names a part
-  pub a-below : (eqb (roleOf (nodeAt table n .kind) 100) 2 || eqb (roleOf (nodeAt table n .kind) 100) 3) ≡ true → nodeAt table n .a < n
-  a-below = part-below table n (roleOf (nodeAt table n .kind) 100) (nodeAt table n .a) (both-left a-fits (b-fits && c-fits) fields)
+  pub a-below : (eqb (roleOf (nodeAt table n .kind) 100) 2 || eqb (roleOf (nodeAt table n .kind) 100) 3) ≡ true
+      → nodeAt table n .a < n
+  a-below =
+      part-below table n (roleOf (nodeAt table n .kind) 100) (nodeAt table n .a)
+      (both-left a-fits (b-fits && c-fits) fields)
 
-  pub b-below : (eqb (roleOf (nodeAt table n .kind) 10) 2 || eqb (roleOf (nodeAt table n .kind) 10) 3) ≡ true → nodeAt table n .b < n
+  pub b-below : (eqb (roleOf (nodeAt table n .kind) 10) 2 || eqb (roleOf (nodeAt table n .kind) 10) 3) ≡ true
+      → nodeAt table n .b < n
   b-below = part-below table n (roleOf (nodeAt table n .kind) 10) (nodeAt table n .b) (both-left b-fits c-fits later)
 
-  pub c-below : (eqb (roleOf (nodeAt table n .kind) 1) 2 || eqb (roleOf (nodeAt table n .kind) 1) 3) ≡ true → nodeAt table n .c < n
+  pub c-below : (eqb (roleOf (nodeAt table n .kind) 1) 2 || eqb (roleOf (nodeAt table n .kind) 1) 3) ≡ true
+      → nodeAt table n .c < n
   c-below = part-below table n (roleOf (nodeAt table n .kind) 1) (nodeAt table n .c) (both-right b-fits c-fits later)

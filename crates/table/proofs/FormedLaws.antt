@@ -26,7 +26,8 @@ three-parts : (a b c d e f g h i j k : Verdict)
     ≡ ((a then b then c then d) then (e then f then g then h then i) then (j then k))
 three-parts a b c d e f g h i j k = simp then-assoc
 
-pub in-parts : (table : List ℕ) → wellFormed table ≡ (shapeVerdict table then (contentsVerdict table then treesVerdict table))
+pub in-parts : (table : List ℕ)
+    → wellFormed table ≡ (shapeVerdict table then (contentsVerdict table then treesVerdict table))
 unfolding wellFormed shapeVerdict contentsVerdict treesVerdict
 in-parts table =
     three-parts (question2 table) (question3 table) (question4 table) (question5 table) (question6 table) (question7 table)

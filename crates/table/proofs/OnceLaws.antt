@@ -1,5 +1,5 @@
--- Question 11: the lower of the first unmarked node and the lowest node marked twice is the first that is not used once. The law of
--- the first place that fails either of two tests serves question 12 too.
+-- Question 11: the lower of the first unmarked node and the lowest node marked twice is the first that is not used once.
+-- The law of the first place that fails either of two tests serves question 12 too.
 use mathlib.Core.Bool.{Bool, true, false, _&&_, and-false}
 use mathlib.Core.List.{List}
 use mathlib.Core.Logic.{_⊎_, ⊎-elim}
@@ -87,7 +87,8 @@ module _ (list : List ℕ) (n : ℕ) (few : n ≤ 256) where
       elim (decLt l n) [
         | yes inside ↦
             let twice : 2 ≤ occurrences l list =
-            ⊎-elim (λ (e : l ≡ n). absurd (omega arith)) (λ (h : 2 ≤ marked zeros l + occurrences l list). omega (arith, none l)) (low .twice) in
+            ⊎-elim (λ (e : l ≡ n). absurd (omega arith))
+            (λ (h : 2 ≤ marked zeros l + occurrences l list). omega (arith, none l)) (low .twice) in
             sym (first-at (λ k. leb (occurrences k list) 1) n l inside passed (lt-leb (occurrences l list) 1 twice))
         | no outside ↦
             let e : l ≡ n = omega (arith, low .bound) in
@@ -97,7 +98,8 @@ module _ (list : List ℕ) (n : ℕ) (few : n ≤ 256) where
   pub once-first : min (firstFailing (bitAt (withBits zeros list)) n) (repeated zeros n list)
       ≡ firstFailing (λ k. eqb (occurrences k list) 1) n
   once-first =
-      let split : (k : ℕ) → k < n → eqb (occurrences k list) 1 ≡ (bitAt (withBits zeros list) k && leb (occurrences k list) 1) =
+      let split : (k : ℕ) → k < n
+      → eqb (occurrences k list) 1 ≡ (bitAt (withBits zeros list) k && leb (occurrences k list) 1) =
       λ k l. once (occurrences k list) ∙ simp (bits-at zeros list k (omega arith), bit-zero 8 k) in
       rw repeated-first
       (sym
@@ -115,5 +117,7 @@ module _ (table : List ℕ) (few : nodes table ≤ 256) where
       let all : m2 ≡ withBits zeros (uses table) =
       second .1 ∙ simp (first .1, zero) (sym (bits-append zeros (partUses table) (bodyUses table))) in
       let low : r2 ≡ repeated zeros (nodes table) (uses table) =
-      second .0 ∙ simp (first .1, first .0, zero) (sym (repeated-append zeros (nodes table) (partUses table) (bodyUses table))) in
+      second .0
+      ∙ simp (first .1, first .0, zero)
+      (sym (repeated-append zeros (nodes table) (partUses table) (bodyUses table))) in
       last ∙ simp (third, counted, all, low) (once-first (uses table) (nodes table) few)

@@ -89,7 +89,8 @@ zero-unknown k h a b c =
     simp (other, named-unknown k h, role-unknown k 100 h, role-unknown k 10 h, role-unknown k 1 h, and-assoc)
 
 pub zero-law : (m : Node) → unnamedZero m
-    ≡ (fieldZero (roleOf (m .kind) 100) (m .a) && (fieldZero (roleOf (m .kind) 10) (m .b) && fieldZero (roleOf (m .kind) 1) (m .c)))
+    ≡ (fieldZero (roleOf (m .kind) 100) (m .a)
+    && (fieldZero (roleOf (m .kind) 10) (m .b) && fieldZero (roleOf (m .kind) 1) (m .c)))
 zero-law m = each-kind ZeroAt zero-known zero-unknown (m .kind) (m .a) (m .b) (m .c)
 
 -- question 9

@@ -84,7 +84,8 @@ module _ (table : List ℕ) where
   unfolding shapeVerdict
   refused3 e f = simp (e, f)
 
-  pub refused4 : LengthTest ≡ true → headerFits table ≡ true → (length table ≡ 4 * (2 + procedures table + nodes table) → ⊥)
+  pub refused4 : LengthTest ≡ true → headerFits table ≡ true
+      → (length table ≡ 4 * (2 + procedures table + nodes table) → ⊥)
       → shapeVerdict table ≡ refused 4 0
   unfolding shapeVerdict
   refused4 e f g = simp (e, f, ne-eqb (length table) (4 * (2 + procedures table + nodes table)) g)
@@ -111,8 +112,10 @@ module _ (table : List ℕ) (h : Header) (e : h ≡ headerOf table) where
   read-nodes = ap (λ (x : Header). x .nodes) e
 
 -- a node past the last is no statement
-pub statement-past : (table : List ℕ) (h : Header) → Sized table h → (n : ℕ) → nodes table ≤ n → isStatement table n ≡ false
+pub statement-past : (table : List ℕ) (h : Header) → Sized table h → (n : ℕ) → nodes table ≤ n
+    → isStatement table n ≡ false
 unfolding isStatement nodeAt unpacked
 statement-past table h s n l =
-    let past : wordAt table (2 + procedures table + n) ≡ 0 = word-past table (2 + procedures table + n) (omega (arith, s .size)) in
+    let past : wordAt table (2 + procedures table + n) ≡ 0 =
+    word-past table (2 + procedures table + n) (omega (arith, s .size)) in
     simp past

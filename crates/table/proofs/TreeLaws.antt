@@ -61,7 +61,8 @@ some-find results (x ∷ xs) h =
     record { node = rest .node; stands = one-more (rest .node) x xs (rest .stands); holds = rest .holds })
     (bool-cases (getD results x false))
 
-some-make : (results : List Bool) (xs : List ℕ) (a : ℕ) → In a xs → getD results a false ≡ true → someOf results xs ≡ true
+some-make : (results : List Bool) (xs : List ℕ) (a : ℕ) → In a xs → getD results a false ≡ true
+    → someOf results xs ≡ true
 unfolding someOf occurrences
 some-make results [] a h e = absurd (omega arith)
 some-make results (x ∷ xs) a h e =
@@ -139,7 +140,8 @@ module _ (table : List ℕ) (header : Header) (f : Fitting table header) where
       }))
       (bool-cases (eqb m n))
 
-  tree-part : (n m a : ℕ) → m < nodes table → In a (partsAt table m) → inTree table n a ≡ true → inTree table n m ≡ true
+  tree-part : (n m a : ℕ) → m < nodes table → In a (partsAt table m) → inTree table n a ≡ true
+      → inTree table n m ≡ true
   unfolding inTree atNode
   tree-part n m a l stands holds =
       either-right (eqb m n) (someOf (below (step n) m) (partsAt table m))
@@ -175,7 +177,8 @@ module _ (table : List ℕ) (header : Header) (f : Fitting table header) where
       (up d n a (omega arith) (omega arith) (w .holds)))
       (tree-cases n b l h)
 
-  down : (d j k b : ℕ) → b < d → b < nodes table → inTree table j b ≡ true → In k (partsAt table j) → inTree table k b ≡ true
+  down : (d j k b : ℕ) → b < d → b < nodes table → inTree table j b ≡ true → In k (partsAt table j)
+      → inTree table k b ≡ true
   down zero j k b under l h stands = absurd (omega arith)
   down (suc d) j k b under l h stands =
       ⊎-elim
@@ -188,5 +191,6 @@ module _ (table : List ℕ) (header : Header) (f : Fitting table header) where
   pub tree-up : (n b : ℕ) → b < nodes table → inTree table n b ≡ true → (n ≡ b) ⊎ Parent n b
   tree-up n b l h = up (suc b) n b (omega arith) l h
 
-  pub tree-down : (j k b : ℕ) → b < nodes table → inTree table j b ≡ true → In k (partsAt table j) → inTree table k b ≡ true
+  pub tree-down : (j k b : ℕ) → b < nodes table → inTree table j b ≡ true → In k (partsAt table j)
+      → inTree table k b ≡ true
   tree-down j k b l h stands = down (suc b) j k b (omega arith) l h stands

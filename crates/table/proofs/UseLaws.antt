@@ -56,7 +56,8 @@ module _ (m : List ℕ) (n : ℕ) where
 
 marked-low : (m : List ℕ) (k : ℕ) → marked m k ≤ 1
 marked-low m k =
-    ⊎-elim (λ (e : bitAt m k ≡ true). simp e (omega arith)) (λ (e : bitAt m k ≡ false). simp e (omega arith)) (bool-cases (bitAt m k))
+    ⊎-elim (λ (e : bitAt m k ≡ true). simp e (omega arith)) (λ (e : bitAt m k ≡ false). simp e (omega arith))
+    (bool-cases (bitAt m k))
 
 -- marking moves one occurrence into the marks, unless the node was marked: then it is lost
 step-other : (m : List ℕ) (n k : ℕ) (u : List ℕ) → (k ≡ n → ⊥)
@@ -155,7 +156,8 @@ lowest m low (n ∷ u) =
     }
 
 -- a node is marked where it was, or occurs in the list
-pub bits-at : (m u : List ℕ) (k : ℕ) → k < 32 * length m → bitAt (withBits m u) k ≡ (bitAt m k || ltb 0 (occurrences k u))
+pub bits-at : (m u : List ℕ) (k : ℕ) → k < 32 * length m
+    → bitAt (withBits m u) k ≡ (bitAt m k || ltb 0 (occurrences k u))
 unfolding withBits occurrences
 bits-at m [] k inside = sym (or-false (bitAt m k))
 bits-at m (n ∷ u) k inside =
@@ -212,6 +214,7 @@ noted-more m low list i r r' after after' so-far here = (
   here .1 ∙ simp (so-far .1) (sym (bits-more m list i)),
 )
 
-pub noted-length : (m : List ℕ) (low : ℕ) (list : ℕ → List ℕ) (i r : ℕ) (after : List ℕ) → Noted m low list i r after
+pub noted-length : (m : List ℕ) (low : ℕ) (list : ℕ → List ℕ) (i r : ℕ) (after : List ℕ)
+    → Noted m low list i r after
     → length after ≡ length m
 noted-length m low list i r after so-far = ap length (so-far .1) ∙ length-withBits m (joined list i)

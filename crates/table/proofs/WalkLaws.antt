@@ -30,7 +30,8 @@ pub record Walk (table : List ℕ) (b i : ℕ) (m : List ℕ) : Type 0 where
   pub size : length m ≡ 8
   pub sound : (k : ℕ) → k < 256 → bitAt m k ≡ true → inTree table k b ≡ true
   pub rooted : bitAt m b ≡ true
-  pub complete : (j k : ℕ) → i ≤ j → j < nodes table → inTree table j b ≡ true → In k (partsAt table j) → bitAt m k ≡ true
+  pub complete : (j k : ℕ) → i ≤ j → j < nodes table → inTree table j b ≡ true → In k (partsAt table j)
+      → bitAt m k ≡ true
 
 module _ (table : List ℕ) (header : Header) (f : Fitting table header) (b : ℕ) (l : b < nodes table) where
   few : nodes table ≤ 256
@@ -44,7 +45,9 @@ module _ (table : List ℕ) (header : Header) (f : Fitting table header) (b : �
             elim (ℕ-discrete k b) [
               | yes same ↦ rw same (tree-self table b)
               | no other ↦
-                  absurd (never (bitAt (withBit (replicate 8 0) b) k) marked (bit-other (replicate 8 0) b k other ∙ bit-zero 8 k))
+                  absurd
+                  (never (bitAt (withBit (replicate 8 0) b) k) marked
+                  (bit-other (replicate 8 0) b k other ∙ bit-zero 8 k))
             ];
         rooted = bit-same (replicate 8 0) b (omega (arith, few));
         complete = λ j k above inside holds stands. absurd (omega arith);
@@ -159,7 +162,9 @@ module _ (test : ℕ → Bool) (count n low : ℕ) (inside : n < count) (f : Fou
               | yes higher ↦ f .passed j (omega arith) under
               | no here ↦ let same : j ≡ n = omega arith in rw same e
             ];
-        fails = ⊎-elim (λ (e : low ≡ count). inl e) (λ (h : (n + 1 ≤ low) × (test low ≡ false)). inr (omega arith, h .1)) (f .fails);
+        fails =
+            ⊎-elim (λ (e : low ≡ count). inl e) (λ (h : (n + 1 ≤ low) × (test low ≡ false)). inr (omega arith, h .1))
+            (f .fails);
       }
 
   pub found-here : test n ≡ false → Found test count n n
@@ -167,7 +172,8 @@ module _ (test : ℕ → Bool) (count n low : ℕ) (inside : n < count) (f : Fou
       record { bound = omega arith; passed = λ j above under. absurd (omega arith); fails = inr (omega arith, e) }
 
 -- a visit finds a call in the tree
-pub found-next : (table : List ℕ) (p n low : ℕ) (m : List ℕ) → n < nodes table → bitAt m n ≡ inTree table n (body table p)
+pub found-next : (table : List ℕ) (p n low : ℕ) (m : List ℕ) → n < nodes table
+    → bitAt m n ≡ inTree table n (body table p)
     → Found (ownCalls table p) (nodes table) (n + 1) low
     → (after : ℕ) → after ≡ visitedLowest table p n m low → Found (ownCalls table p) (nodes table) n after
 unfolding visitedLowest ownCalls
@@ -191,7 +197,8 @@ found-next table p n low m inside marked f after e =
 
 -- as the code sets out
 pub walk-from : (table : List ℕ) (header : Header) (f : Fitting table header) (b : ℕ) → b < nodes table
-    → (m start : List ℕ) (root i : ℕ) → m ≡ withBit start root → start ≡ replicate 8 0 → root ≡ b → i ≡ nodes table
+    → (m start : List ℕ) (root i : ℕ) → m ≡ withBit start root → start ≡ replicate 8 0 → root ≡ b
+    → i ≡ nodes table
     → Walk table b i m
 walk-from table header f b l m start root i marked zero at-root at-end =
     let e : m ≡ withBit (replicate 8 0) b = marked ∙ simp (zero, at-root) in

@@ -23,11 +23,15 @@ evaluate-requires c κs =
 
 returns-2 : tie.Need-returns-2
 unfolding needsPlace
-returns-2 c = rw (top-statement (c .before .before .before .before .before .before .pre) (loop-of _ (c .before .before .if2 .taken)), c .evaluate .ensures)
+returns-2 c =
+    let given = c .before .before .before .before .before .before .pre in
+    rw (top-statement given (loop-of _ (c .before .before .if2 .taken)), c .evaluate .ensures)
 
 returns-3 : tie.Need-returns-3
 unfolding statementAt
-returns-3 c = rw (← c .before .before .before .before .pre .here) (sym (needs-other _ _ _ (top-to (c .before .before .before .before .pre)) (c .before .if1 .left) (c .if2 .left)))
+returns-3 c =
+    let given = c .before .before .before .before .pre in
+    rw (← given .here) (sym (needs-other _ _ _ (top-to given) (c .before .if1 .left) (c .if2 .left)))
 
 pub needs-place-spec : {M : Type 1} → statement M
 needs-place-spec = tie.close (tie.spec returns cast-evaluate evaluate-requires returns-2 returns-3)

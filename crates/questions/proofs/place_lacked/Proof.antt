@@ -14,6 +14,9 @@ use borrow.Author.Needs.{needs}
 use Rattle.questions.proofs.place_lacked.Statement.{statement}
 use Rattle.questions.proofs.place_lacked.Tie as tie
 
+abbrev start : tie.After-shared-slice-known4 → tie.Start
+start c = c .before .before .before .before .before .before .before
+
 status-at-requires : tie.Need-status-at-requires
 status-at-requires c κs = search needs
 
@@ -25,39 +28,70 @@ process-at-requires : tie.Need-process-at-requires
 process-at-requires c κs = search needs
 
 shared-slice-read-if2 : tie.Need-shared-slice-read-if2
-shared-slice-read-if2 c = omega (arith, ap length (c .before .process-at .ensures) ∙ process-length (c .before .before .before .before .before .before .before .args .state .now) (c .before .before .before .before .before .before .before .args .count) (c .before .before .before .before .before .before .before .args .p) (c .before .before .before .before .before .before .before .pre .0 .stated) (c .before .before .before .before .before .before .before .pre .1))
+shared-slice-read-if2 c =
+    let args = start c .args in
+    let given = start c .pre in
+    omega (
+      arith,
+      ap length (c .before .process-at .ensures)
+          ∙ process-length (args .state .now) (args .count) (args .p) (given .0 .stated) (given .1),
+    )
 
 returns-2 : tie.Need-returns-2
 unfolding placeLacked depth
-returns-2 c = rw (eq-eqb _ _ (sym (c .before .before .before .before .status-at .ensures) ∙ c .before .before .before .if1 .left), ← c .before .before .process-at .ensures, ne-eqb _ _ (c .if2 .taken))
+returns-2 c =
+    rw (
+      eq-eqb _ _ (sym (c .before .before .before .before .status-at .ensures) ∙ c .before .before .before .if1 .left),
+      ← c .before .before .process-at .ensures,
+      ne-eqb _ _ (c .if2 .taken),
+    )
 
 top-requires : tie.Need-top-requires
-top-requires c κs = rw (c .before .before .process-at .ensures) (run-stacked (c .before .before .before .before .before .before .before .before .pre .0) (c .before .before .before .before .before .before .before .before .pre .1) (c .before .before .before .before .before .before .before .before .pre .2) (sym (c .before .before .before .before .status-at .ensures) ∙ c .before .before .before .if1 .left))
+top-requires c κs =
+    let given = start (c .before) .pre in
+    rw (c .before .before .process-at .ensures)
+    (run-stacked (given .0) (given .1) (given .2)
+    (sym (c .before .before .before .before .status-at .ensures) ∙ c .before .before .before .if1 .left))
 
 cast-node-at : tie.Need-cast-node-at
 cast-node-at c = search needs
 
 node-at-requires : tie.Need-node-at-requires
 node-at-requires c κs =
-    let read = c .before .before .before .before .before .before .before .before .before .pre .0 .read in
-    let runs = sym (c .before .before .before .before .before .status-at .ensures) ∙ c .before .before .before .before .if1 .left in
+    let status-at = c .before .before .before .before .before .status-at in
+    let given = start (c .before .before) .pre in
+    let read = given .0 .read in
+    let runs = sym (status-at .ensures) ∙ c .before .before .before .before .if1 .left in
     rw (c .top .ensures ∙ ap top (c .before .before .before .process-at .ensures))
-    (readable read (statement-below _ (read-formed read) _ (run-statement (c .before .before .before .before .before .before .before .before .before .pre .0) (c .before .before .before .before .before .before .before .before .before .pre .1) (c .before .before .before .before .before .before .before .before .before .pre .2) runs)))
+    (readable read (statement-below _ (read-formed read) _ (run-statement (given .0) (given .1) (given .2) runs)))
 
 cast-needs-place : tie.Need-cast-needs-place
 cast-needs-place c = search needs
 
 needs-place-requires : tie.Need-needs-place-requires
 needs-place-requires c κs =
-    let runs = sym (c .before .before .before .before .before .before .status-at .ensures) ∙ c .before .before .before .before .before .if1 .left in
-    let here = c .node-at .ensures ∙ ap (nodeAt (c .before .before .before .before .before .before .before .before .before .before .args .table .now)) (c .before .top .ensures ∙ ap top (c .before .before .before .before .process-at .ensures)) in
-    rw (c .before .before .before .before .process-at .ensures) (run-topped (c .before .before .before .before .before .before .before .before .before .before .pre .0) (c .before .before .before .before .before .before .before .before .before .before .pre .1) (c .before .before .before .before .before .before .before .before .before .before .pre .2) runs here)
+    let past = c .before .before .before .before in
+    let process-at = past .process-at in
+    let status-at = past .before .before .status-at in
+    let given = start (c .before .before .before) .pre in
+    let runs = sym (status-at .ensures) ∙ past .before .if1 .left in
+    let here =
+    c .node-at .ensures
+    ∙ ap (nodeAt (start (c .before .before .before) .args .table .now))
+    (c .before .top .ensures ∙ ap top (process-at .ensures)) in
+    rw (process-at .ensures) (run-topped (given .0) (given .1) (given .2) runs here)
 
 returns-3 : tie.Need-returns-3
 unfolding placeLacked depth
 returns-3 c =
-    rw
-    (eq-eqb _ _ (sym (c .before .before .before .before .before .before .before .status-at .ensures) ∙ c .before .before .before .before .before .before .if1 .left), ← c .before .before .before .before .before .process-at .ensures, eq-eqb _ _ (c .before .before .before .if2 .left))
+    let past = c .before .before .before .before .before in
+    let process-at = past .process-at in
+    let status-at = past .before .before .status-at in
+    rw (
+      eq-eqb _ _ (sym (status-at .ensures) ∙ past .before .if1 .left),
+      ← process-at .ensures,
+      eq-eqb _ _ (c .before .before .before .if2 .left),
+    )
     (c .needs-place .ensures)
 
 pub place-lacked-spec : {M : Type 1} → statement M

@@ -12,17 +12,17 @@ use borrow.Author.Needs.{needs}
 use Rattle.questions.proofs.start_asked.Statement.{statement}
 use Rattle.questions.proofs.start_asked.Tie as tie
 
-refuse-requires : tie.Need-refuse-requires
-refuse-requires c κs = search needs
+refused-requires : tie.Need-refused-requires
+refused-requires c κs = search needs
 
 returns : tie.Need-returns
-returns c = rw (lt-leb _ _ (c .before .if1 .taken)) (c .refuse .ensures)
+returns c = rw (lt-leb _ _ (c .before .if1 .taken)) (c .refused .ensures)
 
-refuse-requires-2 : tie.Need-refuse-requires-2
-refuse-requires-2 c κs = search needs
+refused-requires-2 : tie.Need-refused-requires-2
+refused-requires-2 c κs = search needs
 
 returns-2 : tie.Need-returns-2
-returns-2 c = rw (le-leb _ _ (c .before .before .if1 .left), lt-leb _ _ (c .before .if2 .taken)) (c .refuse2 .ensures)
+returns-2 c = rw (le-leb _ _ (c .before .before .if1 .left), lt-leb _ _ (c .before .if2 .taken)) (c .refused2 .ensures)
 
 header-requires : tie.Need-header-requires
 header-requires c κs =
@@ -39,24 +39,35 @@ add-size c =
 mul-if3 : tie.Need-mul-if3
 unfolding headerOf
 mul-if3 c =
-    let few = formed _ (c .before .before .before .before .before .before .before .before .pre) .variables-high in
+    let past = c .before .before .before .before .before .before .before .before in
+    let args = past .args in
+    let few = formed _ (past .pre) .variables-high in
     let same = ap (λ h. h .variables) (c .before .header .ensures) in
-    omega (arith, given-fits (c .before .header .result .variables + 12) (c .before .before .before .before .before .before .before .before .args .processes) (omega arith) (c .before .before .if2 .left))
+    omega (
+      arith,
+      given-fits (c .before .header .result .variables + 12) (args .processes) (omega arith)
+          (c .before .before .if2 .left),
+    )
 
-refuse-requires-3 : tie.Need-refuse-requires-3
-refuse-requires-3 c κs = search needs
+refused-requires-3 : tie.Need-refused-requires-3
+refused-requires-3 c κs = search needs
 
 returns-3 : tie.Need-returns-3
 unfolding startSize headerOf
 returns-3 c =
-    rw (le-leb _ _ (c .before .before .before .before .before .if1 .left), le-leb _ _ (c .before .before .before .before .if2 .left), ← ap (λ h. h .variables) (c .before .before .before .header .ensures), ne-eqb _ _ (c .before .if3 .taken))
-    (c .refuse3 .ensures)
+    rw (
+      le-leb _ _ (c .before .before .before .before .before .if1 .left),
+      le-leb _ _ (c .before .before .before .before .if2 .left),
+      ← ap (λ h. h .variables) (c .before .before .before .header .ensures),
+      ne-eqb _ _ (c .before .if3 .taken),
+    )
+    (c .refused3 .ensures)
 
 mul-if4 : tie.Need-mul-if4
 mul-if4 c = search needs
 
-refuse-requires-4 : tie.Need-refuse-requires-4
-refuse-requires-4 c κs = search needs
+refused-requires-4 : tie.Need-refused-requires-4
+refused-requires-4 c κs = search needs
 
 returns-4 : tie.Need-returns-4
 unfolding startSize headerOf
@@ -68,26 +79,27 @@ returns-4 c =
       eq-eqb _ _ (c .before .before .if3 .left),
       ne-eqb _ _ (c .before .if4 .taken),
     )
-    (c .refuse4 .ensures)
+    (c .refused4 .ensures)
 
 mul-if5 : tie.Need-mul-if5
 mul-if5 c = search needs
 
-refuse-requires-5 : tie.Need-refuse-requires-5
-refuse-requires-5 c κs = search needs
+refused-requires-5 : tie.Need-refused-requires-5
+refused-requires-5 c κs = search needs
 
 returns-5 : tie.Need-returns-5
 unfolding startSize headerOf
 returns-5 c =
+    let past = c .before .before .before .before .before in
     rw (
-      le-leb _ _ (c .before .before .before .before .before .before .before .if1 .left),
-      le-leb _ _ (c .before .before .before .before .before .before .if2 .left),
-      ← ap (λ h. h .variables) (c .before .before .before .before .before .header .ensures),
+      le-leb _ _ (past .before .before .if1 .left),
+      le-leb _ _ (past .before .if2 .left),
+      ← ap (λ h. h .variables) (past .header .ensures),
       eq-eqb _ _ (c .before .before .before .if3 .left),
       eq-eqb _ _ (c .before .before .if4 .left),
       ne-eqb _ _ (c .before .if5 .taken),
     )
-    (c .refuse5 .ensures)
+    (c .refused5 .ensures)
 
 returns-6 : tie.Need-returns-6
 unfolding startSize headerOf
@@ -105,19 +117,19 @@ pub start-asked-spec : {M : Type 1} → statement M
 start-asked-spec =
     tie.close
     (tie.spec
-    refuse-requires
+    refused-requires
     returns
-    refuse-requires-2
+    refused-requires-2
     returns-2
     header-requires
     add-size
     mul-if3
-    refuse-requires-3
+    refused-requires-3
     returns-3
     mul-if4
-    refuse-requires-4
+    refused-requires-4
     returns-4
     mul-if5
-    refuse-requires-5
+    refused-requires-5
     returns-5
     returns-6)

@@ -17,7 +17,9 @@ use Rattle.scan.proofs.passes.Statement.{statement}
 use Rattle.scan.proofs.passes.Tie as tie
 
 abbrev start : tie.After-none-left → tie.Start
-start c = c .before .before .before .before .before .before .before .before .before .before .before .before .before .before .before .before .before
+start c =
+    c .before .before .before .before .before .before .before .before .before
+    .before .before .before .before .before .before .before .before
 
 -- the table is sized as its header says
 shape : (c : tie.Else1) → shapeVerdict (c .before .before .before .before .args .table .now) ≡ Accepted
@@ -48,8 +50,10 @@ returns-2 : tie.Need-returns-2
 returns-2 c = no-answer
 
 scan-bodies-requires : tie.Need-scan-bodies-requires
-scan-bodies-requires c κs =
-    (known (c .before .before .before .before .before .before), c .before .before .before .before .scan-nodes .ensures (not-false _ (c .before .if2 .left)))
+scan-bodies-requires c κs = (
+  known (c .before .before .before .before .before .before),
+  c .before .before .before .before .scan-nodes .ensures (not-false _ (c .before .if2 .left)),
+)
 
 same-length-2 : tie.Need-same-length-2
 same-length-2 c = search needs
@@ -71,9 +75,11 @@ returns-4 c =
     let entered = c .before .before .before .before .before .scan-bodies .ensures (not-false _ (c .before .before .if3 .left)) in
     let size = known (c .before .before .before .before .before .before .before .before .before .before .before .before) in
     let facts = c .before .before .before .before .before .scan-bodies .last .1 .1 .0 in
-    let none : c .none-left .result ≡ true → (k : ℕ) → k < nodes (start c .args .table .now) → _≡_ {A = ℕ} (getD facts k 0) 0 =
+    let none : c .none-left .result ≡ true → (k : ℕ) → k < nodes (start c .args .table .now)
+    → _≡_ {A = ℕ} (getD facts k 0) 0 =
     λ e k l. c .none-left .ensures e k (rw (size .nodes-read) l) in (
-      (λ e. well-formed _ _ _ entered (none e) (shape (c .before .before .before .before .before .before .before .before .before .before .before .before .before))),
+      (λ e. well-formed _ _ _ entered (none e)
+          (shape (c .before .before .before .before .before .before .before .before .before .before .before .before .before))),
       ((λ e t. all-judged _ _ _ entered (none e) t), (λ e. all-zero _ _ _ entered (none e))),
     )
 

@@ -19,11 +19,14 @@ same-length c = search needs
 
 returns : tie.Need-returns
 returns c =
-    let t = c .before .before .before .before .before .before .before .before .before .args .table .now in
-    let s = c .before .before .before .before .before .before .before .before .before .pre .0 .sized in (
+    let past = c .before .before .before .before .before in
+    let first-misused = past .first-misused in
+    let t = past .before .before .before .before .args .table .now in
+    let s = past .before .before .before .before .pre .0 .sized in (
       c .refused .ensures
-          ∙ sym (refused11 t (c .before .before .before .before .before .first-misused .result) (c .before .before .before .before .before .first-misused .ensures .0) (rw (← s .nodes-read) (c .before .if1 .taken))),
-      c .before .before .before .before .before .first-misused .ensures .1,
+          ∙ sym (refused11 t (first-misused .result) (first-misused .ensures .0)
+          (rw (← s .nodes-read) (c .before .if1 .taken))),
+      first-misused .ensures .1,
     )
 
 first-miscalled-requires : tie.Need-first-miscalled-requires
@@ -40,13 +43,17 @@ same-length-2 c = search needs
 
 returns-2 : tie.Need-returns-2
 returns-2 c =
-    let t = c .before .before .before .before .before .before .before .before .before .before .before .before .before .before .before .args .table .now in
-    let s = c .before .before .before .before .before .before .before .before .before .before .before .before .before .before .before .pre .0 .sized in (
+    let past = c .before .before .before .before .before .before .before .before .before .before .before in
+    let first-miscalled = c .before .before .before .before .before .first-miscalled in
+    let first-misused = past .first-misused in
+    let t = past .before .before .before .before .args .table .now in
+    let s = past .before .before .before .before .pre .0 .sized in (
       c .refused2 .ensures
           ∙ sym
-          (refused12 t (c .before .before .before .before .before .before .before .before .before .before .before .first-misused .result) (c .before .before .before .before .before .before .before .before .before .before .before .first-misused .ensures .0) (rw (← s .nodes-read) (c .before .before .before .before .before .before .before .if1 .left))
-          (c .before .before .before .before .before .first-miscalled .result) (c .before .before .before .before .before .first-miscalled .ensures .0) (rw (← s .nodes-read) (c .before .if2 .taken))),
-      c .before .before .before .before .before .first-miscalled .ensures .1,
+          (refused12 t (first-misused .result) (first-misused .ensures .0)
+          (rw (← s .nodes-read) (c .before .before .before .before .before .before .before .if1 .left))
+          (first-miscalled .result) (first-miscalled .ensures .0) (rw (← s .nodes-read) (c .before .if2 .taken))),
+      first-miscalled .ensures .1,
     )
 
 same-length-3 : tie.Need-same-length-3
@@ -54,12 +61,16 @@ same-length-3 c = search needs
 
 returns-3 : tie.Need-returns-3
 returns-3 c =
-    let t = c .before .before .before .before .before .before .before .before .before .before .before .before .before .before .args .table .now in
-    let s = c .before .before .before .before .before .before .before .before .before .before .before .before .before .before .pre .0 .sized in (
+    let past = c .before .before .before .before .before .before .before .before .before .before in
+    let first-miscalled = c .before .before .before .before .first-miscalled in
+    let first-misused = past .first-misused in
+    let t = past .before .before .before .before .args .table .now in
+    let s = past .before .before .before .before .pre .0 .sized in (
       sym
-          (accepted12 t (c .before .before .before .before .before .before .before .before .before .before .first-misused .result) (c .before .before .before .before .before .before .before .before .before .before .first-misused .ensures .0) (rw (← s .nodes-read) (c .before .before .before .before .before .before .if1 .left))
-          (c .before .before .before .before .first-miscalled .result) (c .before .before .before .before .first-miscalled .ensures .0) (rw (← s .nodes-read) (c .if2 .left))),
-      c .before .before .before .before .first-miscalled .ensures .1,
+          (accepted12 t (first-misused .result) (first-misused .ensures .0)
+          (rw (← s .nodes-read) (c .before .before .before .before .before .before .if1 .left))
+          (first-miscalled .result) (first-miscalled .ensures .0) (rw (← s .nodes-read) (c .if2 .left))),
+      first-miscalled .ensures .1,
     )
 
 pub trees-spec : {M : Type 1} → statement M

@@ -13,16 +13,19 @@ use borrow.Author.Needs.{needs}
 use Rattle.table.proofs.well_formed.Statement.{statement}
 use Rattle.table.proofs.well_formed.Tie as tie
 
-shaped : (c : tie.Else1) → refuses (shapeVerdict (c .before .before .before .before .before .args .table .now)) ≡ false
+abbrev start : tie.Else1 → tie.Start
+start c = c .before .before .before .before .before
+
+shaped : (c : tie.Else1) → refuses (shapeVerdict (start c .args .table .now)) ≡ false
 shaped c = rw (← c .before .before .shape .ensures) (sym (c .before .refuses .ensures) ∙ c .if1 .left)
 
 -- the table is sized as its header says
-known : (c : tie.After-header) → Sized (c .before .before .before .before .before .before .args .table .now) (c .header .result)
+known : (c : tie.After-header) → Sized (start (c .before) .args .table .now) (c .header .result)
 known c =
-    let t = c .before .before .before .before .before .before .args .table .now in
+    let t = start (c .before) .args .table .now in
     rw (c .header .ensures) (sized t (not-refused (shapeVerdict t) (shaped (c .before))))
 
-filled : (c : tie.Else2) → refuses (contentsVerdict (c .before .before .before .before .before .before .before .before .before .args .table .now)) ≡ false
+filled : (c : tie.Else2) → refuses (contentsVerdict (start (c .before .before .before .before) .args .table .now)) ≡ false
 filled c = rw (← c .before .before .contents .ensures) (sym (c .before .refuses2 .ensures) ∙ c .if2 .left)
 
 shape-requires : tie.Need-shape-requires
@@ -33,13 +36,15 @@ refuses-requires c κs = search needs
 
 returns : tie.Need-returns
 returns c =
+    let shape = c .before .before .shape in
     let t = c .before .before .before .before .before .args .table .now in
-    let fails : refuses (shapeVerdict t) ≡ true = rw (← c .before .before .shape .ensures) (sym (c .before .refuses .ensures) ∙ c .if1 .taken) in
-    (c .before .before .shape .ensures ∙ sym (in-parts t ∙ stops (shapeVerdict t) _ fails), c .before .before .before .before .before .pre)
+    let fails : refuses (shapeVerdict t) ≡ true =
+    rw (← shape .ensures) (sym (c .before .refuses .ensures) ∙ c .if1 .taken) in
+    (shape .ensures ∙ sym (in-parts t ∙ stops (shapeVerdict t) _ fails), c .before .before .before .before .before .pre)
 
 header-requires : tie.Need-header-requires
 header-requires c κs =
-    let t = c .before .before .before .before .before .args .table .now in
+    let t = start c .args .table .now in
     omega (arith, sized t (not-refused (shapeVerdict t) (shaped c)) .size)
 
 contents-requires : tie.Need-contents-requires
@@ -50,27 +55,37 @@ refuses-requires-2 c κs = search needs
 
 returns-2 : tie.Need-returns-2
 returns-2 c =
-    let t = c .before .before .before .before .before .before .before .before .before .args .table .now in
-    let fails : refuses (contentsVerdict t) ≡ true = rw (← c .before .before .contents .ensures) (sym (c .before .refuses2 .ensures) ∙ c .if2 .taken) in (
-      c .before .before .contents .ensures
-          ∙ sym (in-parts t ∙ goes-on (shapeVerdict t) _ (shaped (c .before .before .before .before)) ∙ stops (contentsVerdict t) _ fails),
-      c .before .before .before .before .before .before .before .before .before .pre,
+    let past = c .before .before .before .before in
+    let contents = c .before .before .contents in
+    let t = start past .args .table .now in
+    let fails : refuses (contentsVerdict t) ≡ true =
+    rw (← contents .ensures) (sym (c .before .refuses2 .ensures) ∙ c .if2 .taken) in (
+      contents .ensures
+          ∙ sym (in-parts t ∙ goes-on (shapeVerdict t) _ (shaped past) ∙ stops (contentsVerdict t) _ fails),
+      start past .pre,
     )
 
 trees-requires : tie.Need-trees-requires
 trees-requires c κs =
-    let t = c .before .before .before .before .before .before .before .before .before .before .args .table .now in
-    (fitting t (c .before .before .before .before .header .result) (known (c .before .before .before .before)) (not-refused (contentsVerdict t) (filled (c .before))), c .before .before .before .before .before .before .before .before .before .before .pre)
+    let past = c .before .before .before .before in
+    let t = start (past .before) .args .table .now in (
+      fitting t (past .header .result) (known past) (not-refused (contentsVerdict t) (filled (c .before))),
+      start (past .before) .pre,
+    )
 
 same-length : tie.Need-same-length
 same-length c = search needs
 
 returns-3 : tie.Need-returns-3
 returns-3 c =
-    let t = c .before .before .before .before .before .before .before .before .before .before .before .before .before .args .table .now in (
-      c .before .before .trees .ensures .0
-          ∙ sym (in-parts t ∙ goes-on (shapeVerdict t) _ (shaped (c .before .before .before .before .before .before .before .before)) ∙ goes-on (contentsVerdict t) _ (filled (c .before .before .before .before))),
-      c .before .before .trees .ensures .1,
+    let past = c .before .before .before .before .before .before .before .before in
+    let trees = c .before .before .trees in
+    let t = start past .args .table .now in (
+      trees .ensures .0
+          ∙ sym (in-parts t
+          ∙ goes-on (shapeVerdict t) _ (shaped past)
+          ∙ goes-on (contentsVerdict t) _ (filled (c .before .before .before .before))),
+      trees .ensures .1,
     )
 
 pub well-formed-spec : {M : Type 1} → statement M

@@ -22,7 +22,8 @@ returns : tie.Need-returns
 returns c =
     let given = c .before .before .before .before .before .before .pre .0 in
     c .refused .ensures
-    ∙ sym (each-refused _ _ _ _ (c .before .before .before .first-unflagged .ensures) (omega (arith, procedure-count _ _ given)))
+    ∙ sym (each-refused _ _ _ _ (c .before .before .before .first-unflagged .ensures)
+    (omega (arith, procedure-count _ _ given)))
 
 returns-2 : tie.Need-returns-2
 returns-2 c =

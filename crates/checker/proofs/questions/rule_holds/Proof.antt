@@ -59,7 +59,9 @@ returns-5 : tie.Need-returns-5
 returns-5 c =
     let start = c .before .before .before in
     let rest = c .match .rest in
-    let none = unasked-kind (start .args .table .now) (start .args .node) (rest .0 .0 .0 .1) (rest .0 .0 .1) (rest .0 .1) (rest .1) in
+    let none =
+    unasked-kind (start .args .table .now) (start .args .node) (rest .0 .0 .0 .1) (rest .0 .0 .1) (rest .0 .1)
+    (rest .1) in
     sym (ap (λ rule. rule .holds) none)
 
 pub rule-holds-spec : {M : Type 1} → statement M

@@ -26,8 +26,10 @@ part-result-end c = search needs
 
 returns : tie.Need-returns
 returns c =
-    let size : c .before .args .size * c .before .args .p + c .before .args .size - c .before .args .size * c .before .args .p ≡ c .before .args .size = omega arith in
-    rw size
+    let size = c .before .args .size in
+    let from = size * c .before .args .p in
+    let same : from + size - from ≡ size = omega arith in
+    rw same
 
 pub given-to-spec : {M : Type 1} → statement M
 given-to-spec =

@@ -10,7 +10,8 @@ use Rattle.machine.proofs.start.lay_out.Statement.{statement}
 use Rattle.machine.proofs.start.lay_out.Tie as tie
 
 abbrev Inv-loop : tie.InvT-loop
-Inv-loop words₀ given variables entry i₀ words i = (i ≤ 329) × (length words ≡ 329) × ((k : ℕ) → k < i → getD words k 0 ≡ laidWord variables entry given k)
+Inv-loop words₀ given variables entry i₀ words i =
+    (i ≤ 329) × (length words ≡ 329) × ((k : ℕ) → k < i → getD words k 0 ≡ laidWord variables entry given k)
 
 abbrev μ-loop : tie.MeasureT-loop
 μ-loop words₀ given variables entry i₀ words i = 329 - i
@@ -35,12 +36,13 @@ loop-less c = omega arith
 
 loop-again : tie.Need-loop-again Inv-loop μ-loop
 loop-again c =
-    let words = c .before .before .loop .words in
-    let i = c .before .before .loop .i in (
+    let loop = c .before .before .loop in
+    let words = loop .words in
+    let i = loop .i in (
       omega arith,
-      length-set words i (c .laid-word .result) ∙ c .before .before .loop .inv .1,
+      length-set words i (c .laid-word .result) ∙ loop .inv .1,
       λ k l. elim (decLt k i) [
-        | yes b ↦ getD-set-other words i k (c .laid-word .result) 0 (λ e. omega arith) ∙ c .before .before .loop .inv .2 k b
+        | yes b ↦ getD-set-other words i k (c .laid-word .result) 0 (λ e. omega arith) ∙ loop .inv .2 k b
         | no b ↦
             let e : k ≡ i = omega arith in
             rw e (getD-set-same words i (c .laid-word .result) 0 (omega arith) ∙ c .laid-word .ensures)

@@ -22,7 +22,10 @@ loop-holds c = (omega arith, refl)
 
 write-requires : tie.Need-write-requires Inv-loop μ-loop
 write-requires c κs =
-    let sized = ap length (c .before .before .loop .inv .1) ∙ each-arrival-length (λ q. runningRecord) (c .before .before .loop .p) (c .before .before .before .before .args .roll .now) in
+    let loop = c .before .before .loop in
+    let sized =
+    ap length (loop .inv .1)
+    ∙ each-arrival-length (λ q. runningRecord) (loop .p) (c .before .before .before .before .args .roll .now) in
     omega arith
 
 add-p : tie.Need-add-p Inv-loop μ-loop
@@ -34,8 +37,9 @@ loop-less c = omega arith
 loop-again : tie.Need-loop-again Inv-loop μ-loop
 unfolding eachArrival
 loop-again c =
-    let next : c .before .before .before .before .before .loop .p + 1 ≡ suc (c .before .before .before .before .before .loop .p) = add-one _ in
-    (omega arith, rw (next, ← c .before .before .before .before .before .loop .inv .1) (c .before .before .write .ensures))
+    let loop = c .before .before .before .before .before .loop in
+    let next : loop .p + 1 ≡ suc (loop .p) = add-one _ in
+    (omega arith, rw (next, ← loop .inv .1) (c .before .before .write .ensures))
 
 same-length : tie.Need-same-length Inv-loop μ-loop
 same-length c = ap length (c .before .loop .inv .1) ∙ each-arrival-length (λ q. runningRecord) _ _

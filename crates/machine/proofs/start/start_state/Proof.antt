@@ -24,7 +24,8 @@ abbrev laid-for : List ℕ → List ℕ → ℕ → List ℕ → List ℕ
 laid-for table words q earlier = startProcess table (startWords table words q)
 
 -- the processes below p are laid out
-record Laying (table : List ℕ) (count : ℕ) (words state₀ : List ℕ) (v entry : ℕ) (state : List ℕ) (p : ℕ) : Type 0 where
+record Laying (table : List ℕ) (count : ℕ) (words state₀ : List ℕ) (v entry : ℕ) (state : List ℕ) (p : ℕ)
+    : Type 0 where
   within : p ≤ count
   counted : v ≡ Table.variables table
   entered : entry ≡ mainBody table
@@ -38,7 +39,8 @@ laid-keeps {table} {count} {words} s q earlier l h =
     .sized
 
 still-sized : {table : List ℕ} {count : ℕ} {words state₀ : List ℕ} {v entry : ℕ} {state : List ℕ} {p : ℕ}
-    → Startable table count words state₀ → Laying table count words state₀ v entry state p → length state ≡ 329 * count
+    → Startable table count words state₀ → Laying table count words state₀ v entry state p
+    → length state ≡ 329 * count
 still-sized {table} {count} {words} {state₀} {p = p} s i =
     ap length (i .reached)
     ∙ each-below-length (laid-for table words) state₀ count (laid-keeps s) (s .stated) p (i .within)
@@ -54,6 +56,9 @@ Inv-loop table count words state₀ variables entry p₀ state p = Laying table 
 
 abbrev μ-loop : tie.MeasureT-loop
 μ-loop table count words state₀ variables entry p₀ state p = count - p
+
+abbrev start : tie.After-body Inv-loop μ-loop → tie.Start Inv-loop μ-loop
+start c = c .before .before .before .before .before .before
 
 header-requires : tie.Need-header-requires Inv-loop μ-loop
 header-requires c κs =
@@ -75,18 +80,25 @@ body-requires c κs =
 cast-entry : tie.Need-cast-entry Inv-loop μ-loop
 unfolding headerOf
 cast-entry c =
-    let table = c .before .before .before .before .before .before .args .table .now in
-    let shape = formed table (c .before .before .before .before .before .before .pre .well-formed) in
-    let same = ap (λ h. h .procedures) (c .before .before .header .ensures) in
-    omega (arith, c .body .ensures, shape .body-below (c .before .before .header .result .procedures - 1) (omega (arith, shape .procedures-low)), shape .nodes-high)
+    let header = c .before .before .header in
+    let table = start c .args .table .now in
+    let shape = formed table (start c .pre .well-formed) in
+    let same = ap (λ h. h .procedures) (header .ensures) in
+    omega (
+      arith,
+      c .body .ensures,
+      shape .body-below (header .result .procedures - 1) (omega (arith, shape .procedures-low)),
+      shape .nodes-high,
+    )
 
 loop-holds : tie.Need-loop-holds Inv-loop μ-loop
 unfolding headerOf eachProcess mainBody
 loop-holds c =
+    let header = c .before .before .header in
     record {
       within = omega arith;
-      counted = ap (λ h. h .variables) (c .before .before .header .ensures);
-      entered = c .body .ensures ∙ ap (λ h. body (c .before .before .before .before .before .before .args .table .now) (h .procedures - 1)) (c .before .before .header .ensures);
+      counted = ap (λ h. h .variables) (header .ensures);
+      entered = c .body .ensures ∙ ap (λ h. body (start c .args .table .now) (h .procedures - 1)) (header .ensures);
       reached = refl;
     }
 
@@ -97,12 +109,14 @@ add-end : tie.Need-add-end Inv-loop μ-loop
 add-end c = omega arith
 
 add-given-to : tie.Need-add-given-to Inv-loop μ-loop
-add-given-to c = omega (arith, c .before .loop .inv .counted, formed _ (c .before .before .before .before .before .before .before .before .pre .well-formed) .variables-high)
+add-given-to c =
+    omega (arith, c .before .loop .inv .counted, formed _ (start (c .before .before) .pre .well-formed) .variables-high)
 
 given-to-requires : tie.Need-given-to-requires Inv-loop μ-loop
 unfolding startSize
 given-to-requires c κs =
-    rw (c .before .loop .inv .counted, c .before .before .before .before .before .before .before .before .pre .worded) (given-within _ (c .before .before .before .before .before .before .before .before .args .count) (c .before .loop .p) (c .loop-test .taken))
+    rw (c .before .loop .inv .counted, start (c .before .before) .pre .worded)
+    (given-within _ (start (c .before .before) .args .count) (c .before .loop .p) (c .loop-test .taken))
 
 mul-lay-out : tie.Need-mul-lay-out Inv-loop μ-loop
 mul-lay-out c = omega arith
@@ -114,18 +128,23 @@ part-lay-out-start : tie.Need-part-lay-out-start Inv-loop μ-loop
 part-lay-out-start c = omega arith
 
 part-lay-out-end : tie.Need-part-lay-out-end Inv-loop μ-loop
-part-lay-out-end c = omega (arith, still-sized (c .before .before .before .before .before .before .before .before .before .pre) (c .before .before .loop .inv))
+part-lay-out-end c =
+    omega (arith, still-sized (start (c .before .before .before) .pre) (c .before .before .loop .inv))
 
 lay-out-requires : tie.Need-lay-out-requires Inv-loop μ-loop
 unfolding startSize
 lay-out-requires c κs =
-    let few = formed _ (c .before .before .before .before .before .before .before .before .before .before .pre .well-formed) .variables-high in
+    let args = c .before .before .before .before .before .before .before .before .before .before .args in
+    let pre = c .before .before .before .before .before .before .before .before .before .before .pre in
+    let few = formed _ (pre .well-formed) .variables-high in
+    let inv = c .before .before .before .loop .inv in
     let p = c .before .before .before .loop .p in
-    let mine = given-is (c .before .before .before .before .before .before .before .before .before .before .args .table .now) (c .before .before .before .before .before .before .before .before .before .before .args .words .now) p (c .before .before .before .loop .inv .counted) (c .before .given-to .ensures) in (
+    let below = c .before .before .loop-test .taken in
+    let mine = given-is (args .table .now) (args .words .now) p (inv .counted) (c .before .given-to .ensures) in (
       ap length (lent (c .before .before .before .loop .state) p)
-          ∙ process-length _ (c .before .before .before .before .before .before .before .before .before .before .args .count) p (still-sized (c .before .before .before .before .before .before .before .before .before .before .pre) (c .before .before .before .loop .inv)) (c .before .before .loop-test .taken),
-      rw (mine, c .before .before .before .loop .inv .counted) (start-words-length _ _ (c .before .before .before .before .before .before .before .before .before .before .args .count) p (c .before .before .before .before .before .before .before .before .before .before .pre .worded) (c .before .before .loop-test .taken)),
-      omega (arith, c .before .before .before .loop .inv .counted),
+          ∙ process-length _ (args .count) p (still-sized pre inv) below,
+      rw (mine, inv .counted) (start-words-length _ _ (args .count) p (pre .worded) below),
+      omega (arith, inv .counted),
     )
 
 add-p : tie.Need-add-p Inv-loop μ-loop
@@ -137,22 +156,28 @@ loop-less c = omega arith
 loop-again : tie.Need-loop-again Inv-loop μ-loop
 unfolding eachProcess
 loop-again c =
-    let table = c .before .before .before .before .before .before .before .before .before .before .before .before .before .args .table .now in
-    let words = c .before .before .before .before .before .before .before .before .before .before .before .before .before .args .words .now in
-    let count = c .before .before .before .before .before .before .before .before .before .before .before .before .before .args .count in
-    let p = c .before .before .before .before .before .before .loop .p in
-    let state = c .before .before .before .before .before .before .loop .state in
-    let last = c .before .before .lay-out .last .0 in
-    let inv = c .before .before .before .before .before .before .loop .inv in
-    let mine = given-is table words p (inv .counted) (c .before .before .before .before .given-to .ensures) in
+    let past = c .before .before .before .before in
+    let lay-out = c .before .before .lay-out in
+    let loop-test = past .before .loop-test in
+    let loop = past .before .before .loop in
+    let args = start (past .before .before .before) .args in
+    let pre = start (past .before .before .before) .pre in
+    let table = args .table .now in
+    let words = args .words .now in
+    let count = args .count in
+    let p = loop .p in
+    let state = loop .state in
+    let last = lay-out .last .0 in
+    let inv = loop .inv in
+    let mine = given-is table words p (inv .counted) (past .given-to .ensures) in
     let sized : length last ≡ 329 =
-    c .before .before .lay-out .kept .0
+    lay-out .kept .0
     ∙ ap length (lent state p)
-    ∙ process-length state count p (still-sized (c .before .before .before .before .before .before .before .before .before .before .before .before .before .pre) inv) (c .before .before .before .before .before .loop-test .taken) in
+    ∙ process-length state count p (still-sized pre inv) (loop-test .taken) in
     let laid-out : last ≡ startProcess table (startWords table words p) =
-    laid-all table (startWords table words p) (formed table (c .before .before .before .before .before .before .before .before .before .before .before .before .before .pre .well-formed) .variables-high)
-    (start-words-length table words count p (c .before .before .before .before .before .before .before .before .before .before .before .before .before .pre .worded) (c .before .before .before .before .before .loop-test .taken)) last sized
-    (λ i l. rw (inv .counted, inv .entered, mine) at (c .before .before .lay-out .ensures i l)) in
+    laid-all table (startWords table words p) (formed table (pre .well-formed) .variables-high)
+    (start-words-length table words count p (pre .worded) (loop-test .taken)) last sized
+    (λ i l. rw (inv .counted, inv .entered, mine) at (lay-out .ensures i l)) in
     let next : p + 1 ≡ suc p = add-one p in
     record {
       within = omega arith;
@@ -162,14 +187,17 @@ loop-again c =
     }
 
 same-length : tie.Need-same-length Inv-loop μ-loop
-same-length c = still-sized (c .before .before .before .before .before .before .before .before .pre) (c .before .loop .inv) ∙ sym (c .before .before .before .before .before .before .before .before .pre .stated)
+same-length c =
+    let pre = start (c .before .before) .pre in
+    still-sized pre (c .before .loop .inv) ∙ sym (pre .stated)
 
 returns : tie.Need-returns Inv-loop μ-loop
 unfolding startState
 returns c =
+    let args = start (c .before .before) .args in
     let inv = c .before .loop .inv in
-    let end : c .before .loop .p ≡ c .before .before .before .before .before .before .before .before .args .count = omega (arith, inv .within) in
-    inv .reached ∙ ap (λ n. eachProcess (laid-for (c .before .before .before .before .before .before .before .before .args .table .now) (c .before .before .before .before .before .before .before .before .args .words .now)) n (c .before .before .before .before .before .before .before .before .args .state .now)) end
+    let end : c .before .loop .p ≡ args .count = omega (arith, inv .within) in
+    inv .reached ∙ ap (λ n. eachProcess (laid-for (args .table .now) (args .words .now)) n (args .state .now)) end
 
 pub start-state-spec : {M : Type 1} → statement M
 start-state-spec =

@@ -58,7 +58,8 @@ part-result-end-3 c = search needs
 returns-3 : tie.Need-returns-3
 unfolding latchesOf
 returns-3 c =
-    let size : 329 * c .before .before .before .args .process + 60 + 12 - (329 * c .before .before .before .args .process + 60) ≡ 12 = omega arith in
+    let args = c .before .before .before .args in
+    let size : 329 * args .process + 60 + 12 - (329 * args .process + 60) ≡ 12 = omega arith in
     rw (size, eq-eqb _ _ (c .before .before .if1 .left), lt-ltb _ _ (c .before .if2 .left))
 
 pub latches-spec : {M : Type 1} → statement M

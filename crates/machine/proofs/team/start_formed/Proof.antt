@@ -5,6 +5,9 @@ use borrow.Author.Needs.{needs}
 use Rattle.machine.proofs.team.start_formed.Statement.{statement}
 use Rattle.machine.proofs.team.start_formed.Tie as tie
 
+abbrev start : tie.After-start-state-arg → tie.Start
+start c = c .before .before .before .before .before .before .before .before .before .before
+
 start-asked-requires : tie.Need-start-asked-requires
 start-asked-requires c κs = search needs
 
@@ -16,13 +19,18 @@ enum-told c = search needs
 
 start-state-requires : tie.Need-start-state-requires
 start-state-requires c κs =
-    startable (c .before .before .before .before .before .before .before .before .before .before .args .table .now) (c .before .before .before .before .before .before .before .before .before .before .args .processes) (c .before .before .before .before .before .before .before .before .before .before .args .words .now) (c .before .before .before .before .before .before .before .before .before .before .args .state .now)
-    (c .before .before .before .before .before .before .before .before .before .before .args .roll .now) (c .before .before .before .before .before .before .before .before .before .before .pre) (sym (c .before .before .before .start-asked .ensures) ∙ c .before .enum-told .given .1)
+    let args = start c .args in
+    startable (args .table .now) (args .processes) (args .words .now) (args .state .now)
+    (args .roll .now) (start c .pre) (sym (c .before .before .before .start-asked .ensures) ∙ c .before .enum-told .given .1)
 
 start-roll-requires : tie.Need-start-roll-requires
 start-roll-requires c κs =
-    started-rolled (c .before .before .before .before .before .before .before .before .before .before .before .before .before .before .args .table .now) (c .before .before .before .before .before .before .before .before .before .before .before .before .before .before .args .processes) (c .before .before .before .before .before .before .before .before .before .before .before .before .before .before .args .words .now) (c .before .before .before .before .before .before .before .before .before .before .before .before .before .before .args .state .now)
-    (c .before .before .before .before .before .before .before .before .before .before .before .before .before .before .args .roll .now) (c .before .before .before .before .before .before .before .before .before .before .before .before .before .before .pre) (sym (c .before .before .before .before .before .before .before .start-asked .ensures) ∙ c .before .before .before .before .before .enum-told .given .1)
+    let past = c .before .before .before .before in
+    let enum-told-call = past .before .enum-told in
+    let start-asked = past .before .before .before .start-asked in
+    let args = start past .args in
+    started-rolled (args .table .now) (args .processes) (args .words .now) (args .state .now)
+    (args .roll .now) (start past .pre) (sym (start-asked .ensures) ∙ enum-told-call .given .1)
 
 same-length : tie.Need-same-length
 same-length c = search needs
@@ -31,7 +39,9 @@ same-length-2 : tie.Need-same-length-2
 same-length-2 c = search needs
 
 returns : tie.Need-returns
-returns c = refused-asked _ _ _ _ _ (c .before .before .before .before .before .before .before .before .before .before .pre) (sym (c .before .before .before .start-asked .ensures) ∙ c .before .asked .given .1)
+returns c =
+    let given = c .before .before .before .before .before .before .before .before .before .before .pre in
+    refused-asked _ _ _ _ _ given (sym (c .before .before .before .start-asked .ensures) ∙ c .before .asked .given .1)
 
 same-length-3 : tie.Need-same-length-3
 same-length-3 c = search needs
@@ -40,7 +50,13 @@ same-length-4 : tie.Need-same-length-4
 same-length-4 c = search needs
 
 returns-2 : tie.Need-returns-2
-returns-2 c = taken-start _ _ _ _ _ (c .before .before .before .before .before .before .before .before .before .before .before .before .before .before .before .before .before .pre) (sym (c .before .before .before .before .before .before .before .before .before .before .start-asked .ensures) ∙ c .before .before .before .before .before .before .before .before .enum-told .given .1) (c .before .before .before .before .before .before .start-state .ensures) (c .before .before .start-roll .ensures)
+returns-2 c =
+    let past = c .before .before .before .before .before .before in
+    let start-state = past .start-state in
+    let enum-told-call = past .before .before .enum-told in
+    let start-asked = past .before .before .before .before .start-asked in
+    taken-start _ _ _ _ _ (start (past .before) .pre) (sym (start-asked .ensures) ∙ enum-told-call .given .1)
+    (start-state .ensures) (c .before .before .start-roll .ensures)
 
 pub start-formed-spec : {M : Type 1} → statement M
 start-formed-spec =

@@ -15,7 +15,9 @@ enum-told : tie.Need-enum-told
 enum-told c = search needs
 
 step-sized-requires : tie.Need-step-sized-requires
-step-sized-requires c κs = (c .before .before .before .before .before .before .before .before .before .before .pre, sym (c .before .before .before .before .sizes-asked .ensures) ∙ c .before .before .enum-told .given .1)
+step-sized-requires c κs =
+    let given = c .before .before .before .before .before .before .before .before .before .before .pre in
+    (given, sym (c .before .before .before .before .sizes-asked .ensures) ∙ c .before .before .enum-told .given .1)
 
 same-length : tie.Need-same-length
 same-length c = search needs
@@ -24,7 +26,9 @@ same-length-2 : tie.Need-same-length-2
 same-length-2 c = search needs
 
 returns : tie.Need-returns
-returns c = denied-sizes _ _ _ _ (c .before .before .before .before .before .before .before .before .before .pre) (sym (c .before .before .before .sizes-asked .ensures) ∙ c .before .asked .given .1)
+returns c =
+    let given = c .before .before .before .before .before .before .before .before .before .pre in
+    denied-sizes _ _ _ _ given (sym (c .before .before .before .sizes-asked .ensures) ∙ c .before .asked .given .1)
 
 same-length-3 : tie.Need-same-length-3
 same-length-3 c = search needs

@@ -28,7 +28,9 @@ cast-advance : tie.Need-cast-advance
 cast-advance c = search needs
 
 advance-requires : tie.Need-advance-requires
-advance-requires c κs = rw (lent (c .before .before .before .args .state .now) (c .before .before .before .args .p)) (c .before .before .before .pre .2)
+advance-requires c κs =
+    let args = c .before .before .before .args in
+    rw (lent (args .state .now) (args .p)) (c .before .before .before .pre .2)
 
 same-length : tie.Need-same-length
 same-length c = search needs

@@ -17,7 +17,11 @@ read-requires c κs = search needs
 
 arrival-of-requires : tie.Need-arrival-of-requires
 arrival-of-requires c κs =
-    (rw (c .before .before .process-at .ensures) (c .before .before .before .before .before .before .pre .3), c .before .before .before .before .before .before .pre .4, ap (λ r. r .status) (c .read .ensures) ∙ running-at _ _ (c .before .before .before .before .before .before .pre .2))
+    let given = c .before .before .before .before .before .before .pre in (
+      rw (c .before .before .process-at .ensures) (given .3),
+      given .4,
+      ap (λ r. r .status) (c .read .ensures) ∙ running-at _ _ (given .2),
+    )
 
 write-requires : tie.Need-write-requires
 write-requires c κs = search needs
@@ -27,8 +31,11 @@ same-length c = search needs
 
 returns : tie.Need-returns
 returns c =
+    let past = c .before .before .before .before in
+    let process-at = past .before .before .before .process-at in
+    let args = past .before .before .before .before .before .before .before .args in
     c .before .before .write .ensures
-    ∙ ap (withArrival (c .before .before .before .before .before .before .before .before .before .before .before .args .roll .now) (c .before .before .before .before .before .before .before .before .before .before .before .args .p)) (rw (c .before .before .before .before .before .before .before .process-at .ensures) at (c .before .before .before .before .arrival-of .ensures))
+    ∙ ap (withArrival (args .roll .now) (args .p)) (rw (process-at .ensures) at (past .arrival-of .ensures))
 
 pub arrive-in-spec : {M : Type 1} → statement M
 arrive-in-spec =

@@ -7,12 +7,35 @@ use Rattle.rules.proofs.ProcessLaws.{process-length}
 use Rattle.rules.specs.Table.{statementAt}
 use Rattle.rules.specs.Process.{processAt, environment, top, advanced, depth}
 use Rattle.rules.specs.Arrivals.{withArrival}
-use Prim.Native.Nat.{_+_, _*_}
+use Prim.Native.Nat.{ℕ, _+_, _*_}
 use lib.ListN.{length, getD}
 use mathlib.Core.Path.{_≡_, sym, _∙_, ap}
+use mathlib.Core.List.{List}
 use borrow.Author.Needs.{needs}
 use Rattle.machine.proofs.turn.move_on.Statement.{statement}
 use Rattle.machine.proofs.turn.move_on.Tie as tie
+
+abbrev start : tie.After-advance-in → tie.Start
+start c = c .before .before .before .before .before
+
+-- the process's words after its statement
+abbrev moved : tie.After-advance-in → List ℕ
+moved c =
+    let args = start c .args in
+    let here = processAt (args .state .now) (args .p) in
+    advanced (args .table .now) (environment here (args .p) (args .count)) here (statementAt (args .table .now) (top here))
+
+-- the depth read off the state is theirs
+left : (c : tie.After-advance-in)
+    → getD (c .advance-in .last .1 .1 .0) (329 * start c .args .p + 72) 0 ≡ depth (moved c)
+left c =
+    let args = start c .args in
+    let given = start c .pre in
+    let sized : length (moved c) ≡ 329 =
+    advanced-length (args .table .now) _ (processAt (args .state .now) (args .p)) _
+    ∙ process-length (args .state .now) (args .count) (args .p) (given .0 .stated) (given .1) in
+    ap (λ l. getD l (329 * args .p + 72) 0) (c .advance-in .ensures)
+    ∙ depth-with (args .state .now) (moved c) (args .count) (args .p) (given .0 .stated) sized (given .1)
 
 advance-in-requires : tie.Need-advance-in-requires
 advance-in-requires c κs = search needs
@@ -34,16 +57,10 @@ same-length c = search needs
 
 returns : tie.Need-returns
 returns c =
-    let state = c .before .before .before .before .before .before .before .before .before .args .state .now in
-    let p = c .before .before .before .before .before .before .before .before .before .args .p in
-    let count = c .before .before .before .before .before .before .before .before .before .args .count in
-    let here = processAt state p in
-    let table = c .before .before .before .before .before .before .before .before .before .args .table .now in
-    let words = advanced table (environment here p count) here (statementAt table (top here)) in
-    let sized : length words ≡ 329 = advanced-length table _ here _ ∙ process-length state count p (c .before .before .before .before .before .before .before .before .before .pre .0 .stated) (c .before .before .before .before .before .before .before .before .before .pre .1) in
-    let left : getD (c .before .before .before .before .advance-in .last .1 .1 .0) (329 * p + 72) 0 ≡ depth words =
-    ap (λ l. getD l (329 * p + 72) 0) (c .before .before .before .before .advance-in .ensures) ∙ depth-with state words count p (c .before .before .before .before .before .before .before .before .before .pre .0 .stated) sized (c .before .before .before .before .before .before .before .before .before .pre .1) in
-    moved-on state (c .before .before .before .before .before .before .before .before .before .args .roll .now) count p words (c .before .before .before .before .advance-in .ensures) (λ e. c .if1 .taken (left ∙ e))
+    let done = c .before .before .before .before in
+    let args = start done .args in
+    moved-on (args .state .now) (args .roll .now) (args .count) (args .p) (moved done) (done .advance-in .ensures)
+    (λ e. c .if1 .taken (left done ∙ e))
 
 read-requires : tie.Need-read-requires
 read-requires c κs = search needs
@@ -65,19 +82,18 @@ same-length-3 c = search needs
 
 returns-2 : tie.Need-returns-2
 returns-2 c =
-    let state = c .before .before .before .before .before .before .before .before .before .before .before .before .before .before .before .before .before .before .args .state .now in
-    let roll = c .before .before .before .before .before .before .before .before .before .before .before .before .before .before .before .before .before .before .args .roll .now in
-    let p = c .before .before .before .before .before .before .before .before .before .before .before .before .before .before .before .before .before .before .args .p in
-    let count = c .before .before .before .before .before .before .before .before .before .before .before .before .before .before .before .before .before .before .args .count in
-    let here = processAt state p in
-    let table = c .before .before .before .before .before .before .before .before .before .before .before .before .before .before .before .before .before .before .args .table .now in
-    let words = advanced table (environment here p count) here (statementAt table (top here)) in
-    let sized : length words ≡ 329 = advanced-length table _ here _ ∙ process-length state count p (c .before .before .before .before .before .before .before .before .before .before .before .before .before .before .before .before .before .before .pre .0 .stated) (c .before .before .before .before .before .before .before .before .before .before .before .before .before .before .before .before .before .before .pre .1) in
-    let left : getD (c .before .before .before .before .before .before .before .before .before .before .before .before .before .advance-in .last .1 .1 .0) (329 * p + 72) 0 ≡ depth words =
-    ap (λ l. getD l (329 * p + 72) 0) (c .before .before .before .before .before .before .before .before .before .before .before .before .before .advance-in .ensures) ∙ depth-with state words count p (c .before .before .before .before .before .before .before .before .before .before .before .before .before .before .before .before .before .before .pre .0 .stated) sized (c .before .before .before .before .before .before .before .before .before .before .before .before .before .before .before .before .before .before .pre .1) in
-    let runs = ap (λ r. r .status) (c .before .before .before .before .before .before .before .read .ensures) ∙ running-at roll p (c .before .before .before .before .before .before .before .before .before .before .before .before .before .before .before .before .before .before .pre .2) in
-    finished state roll count p words (c .before .before .before .before .before .before .before .before .before .before .before .before .before .advance-in .ensures) (sym left ∙ c .before .before .before .before .before .before .before .before .before .if1 .left)
-    (c .before .before .before .before .write .ensures ∙ ap (withArrival roll p) (c .before .before .before .before .before .before .end .ensures ∙ end-running (c .before .before .before .before .before .before .before .read .result) runs))
+    let read = c .before .before .before .before .before .before .before in
+    let empty = read .before .before in
+    let done = empty .before .before .before .before in
+    let args = start done .args in
+    let roll = args .roll .now in
+    let p = args .p in
+    let runs = ap (λ r. r .status) (read .read .ensures) ∙ running-at roll p (start done .pre .2) in
+    finished (args .state .now) roll (args .count) p (moved done) (done .advance-in .ensures)
+    (sym (left done) ∙ empty .if1 .left)
+    (c .before .before .before .before .write .ensures
+    ∙ ap (withArrival roll p)
+    (c .before .before .before .before .before .before .end .ensures ∙ end-running (read .read .result) runs))
     (c .team-status .ensures)
 
 pub move-on-spec : {M : Type 1} → statement M

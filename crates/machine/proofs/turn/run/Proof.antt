@@ -4,31 +4,46 @@ use Rattle.machine.proofs.TeamLaws.{ready-stacked, ready-statement, rea
 use Rattle.process.proofs.StatementLaws.{statement-below, top-to}
 use Rattle.process.proofs.ReadLaws.{readable, read-formed}
 use Rattle.rules.specs.Table.{nodeAt}
-use Rattle.rules.specs.Process.{top}
-use mathlib.Core.Path.{_∙_, ap}
+use Rattle.rules.specs.Process.{processAt, top}
+use mathlib.Core.Path.{_≡_, _∙_, ap}
 use borrow.Author.Needs.{needs}
 use Rattle.machine.proofs.turn.run.Statement.{statement}
 use Rattle.machine.proofs.turn.run.Tie as tie
+
+abbrev start : tie.After-node-at → tie.Start
+start c = c .before .before .before .before .before .before .before
+
+-- the node read is the one on top of the process's stack
+on-top : (c : tie.After-node-at)
+    → c .node-at .result
+    ≡ nodeAt (start c .args .table .now) (top (processAt (start c .args .state .now) (start c .args .p)))
+on-top c =
+    c .node-at .ensures
+    ∙ ap (nodeAt (start c .args .table .now)) (c .before .top .ensures ∙ ap top (c .before .before .process-at .ensures))
 
 process-at-requires : tie.Need-process-at-requires
 process-at-requires c κs = search needs
 
 top-requires : tie.Need-top-requires
-top-requires c κs = rw (c .process-at .ensures) (ready-stacked (c .before .before .before .before .before .pre .0) (c .before .before .before .before .before .pre .1))
+top-requires c κs =
+    let given = c .before .before .before .before .before .pre in
+    rw (c .process-at .ensures) (ready-stacked (given .0) (given .1))
 
 cast-node-at : tie.Need-cast-node-at
 cast-node-at c = search needs
 
 node-at-requires : tie.Need-node-at-requires
 node-at-requires c κs =
-    let read = c .before .before .before .before .before .before .pre .0 .team .read in
+    let given = c .before .before .before .before .before .before .pre in
+    let read = given .0 .team .read in
     let at = c .top .ensures ∙ ap top (c .before .process-at .ensures) in
-    rw at (readable read (statement-below _ (read-formed read) _ (ready-statement (c .before .before .before .before .before .before .pre .0) (c .before .before .before .before .before .before .pre .1))))
+    rw at (readable read (statement-below _ (read-formed read) _ (ready-statement (given .0) (given .1))))
 
 move-on-requires : tie.Need-move-on-requires
 move-on-requires c κs =
-    let here = c .before .before .before .before .node-at .ensures ∙ ap (nodeAt (c .before .before .before .before .before .before .before .before .before .before .before .args .table .now)) (c .before .before .before .before .before .top .ensures ∙ ap top (c .before .before .before .before .before .before .process-at .ensures)) in
-    (c .before .before .before .before .before .before .before .before .before .before .before .pre .0 .team, c .before .before .before .before .before .before .before .before .before .before .before .pre .0 .within, c .before .before .before .before .before .before .before .before .before .before .before .pre .1, ready-turn (c .before .before .before .before .before .before .before .before .before .before .before .pre .0) (c .before .before .before .before .before .before .before .before .before .before .before .pre .1) here (c .before .before .if1 .taken))
+    let read = c .before .before .before .before in
+    let given = start read .pre in
+    (given .0 .team, given .0 .within, given .1, ready-turn (given .0) (given .1) (on-top read) (c .before .before .if1 .taken))
 
 same-length : tie.Need-same-length
 same-length c = search needs
@@ -38,13 +53,16 @@ same-length-2 c = search needs
 
 returns : tie.Need-returns
 returns c =
-    let here = c .before .before .before .before .before .before .before .before .before .node-at .ensures ∙ ap (nodeAt (c .before .before .before .before .before .before .before .before .before .before .before .before .before .before .before .before .args .table .now)) (c .before .before .before .before .before .before .before .before .before .before .top .ensures ∙ ap top (c .before .before .before .before .before .before .before .before .before .before .before .process-at .ensures)) in
-    rw (run-alone _ _ _ _ _ (c .before .before .before .before .before .before .before .before .before .node-at .result) here (c .before .before .before .before .before .before .before .if1 .taken)) (c .before .before .before .before .move-on .ensures)
+    let chosen = c .before .before .before .before .before .before .before in
+    let read = chosen .before .before in
+    rw (run-alone _ _ _ _ _ (read .node-at .result) (on-top read) (chosen .if1 .taken))
+    (c .before .before .before .before .move-on .ensures)
 
 meet-requires : tie.Need-meet-requires
 meet-requires c κs =
-    let here = c .before .before .before .before .node-at .ensures ∙ ap (nodeAt (c .before .before .before .before .before .before .before .before .before .before .before .args .table .now)) (c .before .before .before .before .before .top .ensures ∙ ap top (c .before .before .before .before .before .before .process-at .ensures)) in
-    (c .before .before .before .before .before .before .before .before .before .before .before .pre .0, c .before .before .before .before .before .before .before .before .before .before .before .pre .1, ready-topped (c .before .before .before .before .before .before .before .before .before .before .before .pre .0) (c .before .before .before .before .before .before .before .before .before .before .before .pre .1) here, c .before .before .if1 .left)
+    let read = c .before .before .before .before in
+    let given = start read .pre in
+    (given .0, given .1, ready-topped (given .0) (given .1) (on-top read), c .before .before .if1 .left)
 
 same-length-3 : tie.Need-same-length-3
 same-length-3 c = search needs
@@ -54,9 +72,10 @@ same-length-4 c = search needs
 
 returns-2 : tie.Need-returns-2
 returns-2 c =
-    let here = c .before .before .before .before .before .before .before .before .before .node-at .ensures ∙ ap (nodeAt (c .before .before .before .before .before .before .before .before .before .before .before .before .before .before .before .before .args .table .now)) (c .before .before .before .before .before .before .before .before .before .before .top .ensures ∙ ap top (c .before .before .before .before .before .before .before .before .before .before .before .process-at .ensures)) in
-    rw
-    (run-meets _ _ _ _ _ (c .before .before .before .before .before .before .before .before .before .node-at .result) here (c .before .before .before .before .before .before .before .if1 .left) (top-to (ready-topped (c .before .before .before .before .before .before .before .before .before .before .before .before .before .before .before .before .pre .0) (c .before .before .before .before .before .before .before .before .before .before .before .before .before .before .before .before .pre .1) here)))
+    let chosen = c .before .before .before .before .before .before .before in
+    let read = chosen .before .before in
+    let topped = ready-topped (start read .pre .0) (start read .pre .1) (on-top read) in
+    rw (run-meets _ _ _ _ _ (read .node-at .result) (on-top read) (chosen .if1 .left) (top-to topped))
     (c .before .before .before .before .meet .ensures)
 
 pub run-spec : {M : Type 1} → statement M

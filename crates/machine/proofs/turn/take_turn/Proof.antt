@@ -18,7 +18,13 @@ same-length-2 : tie.Need-same-length-2
 same-length-2 c = search needs
 
 returns : tie.Need-returns
-returns c = rw (taken-run (c .before .before .before .before .before .before .before .before .before .before .before .before .before .args .table .now) (c .before .before .before .before .before .before .before .before .before .before .before .before .before .args .state .now) (c .before .before .before .before .before .before .before .before .before .before .before .before .before .args .roll .now) (c .before .before .before .before .before .before .before .before .before .before .before .before .before .args .count) (c .before .before .before .before .before .before .before .before .before .before .before .before .before .args .p) (sym (c .before .before .before .before .before .before .before .before .status-at .ensures) ∙ c .before .before .before .before .before .before .before .if1 .taken)) (c .before .before .before .before .run .ensures)
+returns c =
+    let past = c .before .before .before .before .before .before .before in
+    let status-at = past .before .status-at in
+    let args = past .before .before .before .before .before .before .args in
+    rw (taken-run (args .table .now) (args .state .now) (args .roll .now) (args .count) (args .p)
+    (sym (status-at .ensures) ∙ past .if1 .taken))
+    (c .before .before .before .before .run .ensures)
 
 team-status-requires : tie.Need-team-status-requires
 team-status-requires c κs = search needs
@@ -27,13 +33,18 @@ same-length-3 : tie.Need-same-length-3
 same-length-3 c = search needs
 
 returns-2 : tie.Need-returns-2
-returns-2 c = taken-waiting _ _ _ _ _ (sym (c .before .before .before .before .status-at .ensures) ∙ c .if2 .taken) (c .before .team-status .ensures)
+returns-2 c =
+    taken-waiting _ _ _ _ _ (sym (c .before .before .before .before .status-at .ensures) ∙ c .if2 .taken)
+    (c .before .team-status .ensures)
 
 same-length-4 : tie.Need-same-length-4
 same-length-4 c = search needs
 
 returns-3 : tie.Need-returns-3
-returns-3 c = taken-ended _ _ _ _ _ (λ e. c .before .before .before .if1 .left (c .before .before .before .before .status-at .ensures ∙ e)) (λ e. c .if2 .left (c .before .before .before .before .status-at .ensures ∙ e)) (c .before .team-status .ensures)
+returns-3 c =
+    let status-at = c .before .before .before .before .status-at in
+    taken-ended _ _ _ _ _ (λ e. c .before .before .before .if1 .left (status-at .ensures ∙ e))
+    (λ e. c .if2 .left (status-at .ensures ∙ e)) (c .before .team-status .ensures)
 
 pub take-turn-spec : {M : Type 1} → statement M
 take-turn-spec =

@@ -33,13 +33,20 @@ status-at-requires : tie.Need-status-at-requires Inv-loop μ-loop
 status-at-requires c κs = omega arith
 
 returns : tie.Need-returns Inv-loop μ-loop
-returns c = sym (one-node-not-waiting _ _ (c .before .before .before .loop .p) (c .before .before .loop-test .taken) (λ e. c .if1 .taken (c .before .status-at .ensures ∙ e)))
+returns c =
+    sym (one-node-not-waiting _ _ (c .before .before .before .loop .p) (c .before .before .loop-test .taken)
+    (λ e. c .if1 .taken (c .before .status-at .ensures ∙ e)))
 
 node-of-requires-2 : tie.Need-node-of-requires-2 Inv-loop μ-loop
 node-of-requires-2 c κs = omega arith
 
 returns-2 : tie.Need-returns-2 Inv-loop μ-loop
-returns-2 c = sym (one-node-elsewhere _ _ (c .before .before .before .before .before .loop .p) (c .before .before .before .before .loop-test .taken) (λ e. c .if2 .taken (c .before .node-of2 .ensures ∙ e ∙ sym (c .before .before .before .before .before .before .node-of .ensures))))
+returns-2 c =
+    let past = c .before .before .before .before in
+    let loop = past .before .loop in
+    let node-of = past .before .before .node-of in
+    sym (one-node-elsewhere _ _ (loop .p) (past .loop-test .taken)
+    (λ e. c .if2 .taken (c .before .node-of2 .ensures ∙ e ∙ sym (node-of .ensures))))
 
 add-p : tie.Need-add-p Inv-loop μ-loop
 add-p c = omega arith
@@ -48,18 +55,20 @@ loop-less : tie.Need-loop-less Inv-loop μ-loop
 loop-less c = omega arith
 
 loop-again : tie.Need-loop-again Inv-loop μ-loop
-loop-again c = (
-  omega arith,
-  passed-more _ _ (c .before .before .before .before .before .loop .inv .1)
-      (both-true _ _ (eq-eqb _ _ (sym (c .before .before .before .status-at .ensures) ∙ c .before .before .if1 .left))
-      (eq-eqb _ _ (sym (c .before .node-of2 .ensures) ∙ c .if2 .left ∙ c .before .before .before .before .before .before .node-of .ensures))),
-)
+loop-again c =
+    let node-of = c .before .before .before .before .before .before .node-of in (
+      omega arith,
+      passed-more _ _ (c .before .before .before .before .before .loop .inv .1)
+          (both-true _ _ (eq-eqb _ _ (sym (c .before .before .before .status-at .ensures) ∙ c .before .before .if1 .left))
+          (eq-eqb _ _ (sym (c .before .node-of2 .ensures) ∙ c .if2 .left ∙ node-of .ensures))),
+    )
 
 returns-3 : tie.Need-returns-3 Inv-loop μ-loop
 unfolding allAtOneNode
 returns-3 c =
-    let end : c .before .loop .p ≡ c .before .before .before .before .args .count = omega arith in
-    sym (all-true (waits-there (c .before .before .before .before .args .roll .now)) (c .before .before .before .before .args .count) (rw end at (c .before .loop .inv .1)))
+    let args = c .before .before .before .before .args in
+    let end : c .before .loop .p ≡ args .count = omega arith in
+    sym (all-true (waits-there (args .roll .now)) (args .count) (rw end at (c .before .loop .inv .1)))
 
 pub all-at-one-node-spec : {M : Type 1} → statement M
 all-at-one-node-spec =

@@ -28,7 +28,10 @@ status-at-requires : tie.Need-status-at-requires Inv-loop μ-loop
 status-at-requires c κs = omega arith
 
 returns : tie.Need-returns Inv-loop μ-loop
-returns c = sym (all-false (over (c .before .before .before .before .before .args .roll .now)) (c .before .before .before .before .before .args .count) (c .before .before .before .loop .p) (c .before .before .loop-test .taken) (ne-eqb _ _ (λ e. c .if1 .taken (c .before .status-at .ensures ∙ e))))
+returns c =
+    let args = c .before .before .before .before .before .args in
+    sym (all-false (over (args .roll .now)) (args .count) (c .before .before .before .loop .p)
+    (c .before .before .loop-test .taken) (ne-eqb _ _ (λ e. c .if1 .taken (c .before .status-at .ensures ∙ e))))
 
 add-p : tie.Need-add-p Inv-loop μ-loop
 add-p c = omega arith
@@ -37,12 +40,17 @@ loop-less : tie.Need-loop-less Inv-loop μ-loop
 loop-less c = omega arith
 
 loop-again : tie.Need-loop-again Inv-loop μ-loop
-loop-again c = (omega arith, passed-more _ _ (c .before .before .before .loop .inv .1) (eq-eqb _ _ (sym (c .before .status-at .ensures) ∙ c .if1 .left)))
+loop-again c = (
+  omega arith,
+  passed-more _ _ (c .before .before .before .loop .inv .1)
+      (eq-eqb _ _ (sym (c .before .status-at .ensures) ∙ c .if1 .left)),
+)
 
 returns-2 : tie.Need-returns-2 Inv-loop μ-loop
 returns-2 c =
-    let end : c .before .loop .p ≡ c .before .before .before .args .count = omega arith in
-    sym (all-true (over (c .before .before .before .args .roll .now)) (c .before .before .before .args .count) (rw end at (c .before .loop .inv .1)))
+    let args = c .before .before .before .args in
+    let end : c .before .loop .p ≡ args .count = omega arith in
+    sym (all-true (over (args .roll .now)) (args .count) (rw end at (c .before .loop .inv .1)))
 
 pub all-ended-spec : {M : Type 1} → statement M
 all-ended-spec =

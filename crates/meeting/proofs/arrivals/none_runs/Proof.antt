@@ -28,7 +28,10 @@ status-at-requires : tie.Need-status-at-requires Inv-loop μ-loop
 status-at-requires c κs = omega arith
 
 returns : tie.Need-returns Inv-loop μ-loop
-returns c = sym (all-false (stopped (c .before .before .before .before .before .args .roll .now)) (c .before .before .before .before .before .args .count) (c .before .before .before .loop .p) (c .before .before .loop-test .taken) (ap not (eq-eqb _ _ (sym (c .before .status-at .ensures) ∙ c .if1 .taken))))
+returns c =
+    let args = c .before .before .before .before .before .args in
+    sym (all-false (stopped (args .roll .now)) (args .count) (c .before .before .before .loop .p)
+    (c .before .before .loop-test .taken) (ap not (eq-eqb _ _ (sym (c .before .status-at .ensures) ∙ c .if1 .taken))))
 
 add-p : tie.Need-add-p Inv-loop μ-loop
 add-p c = omega arith
@@ -37,12 +40,17 @@ loop-less : tie.Need-loop-less Inv-loop μ-loop
 loop-less c = omega arith
 
 loop-again : tie.Need-loop-again Inv-loop μ-loop
-loop-again c = (omega arith, passed-more _ _ (c .before .before .before .loop .inv .1) (ap not (ne-eqb _ _ (λ e. c .if1 .left (c .before .status-at .ensures ∙ e)))))
+loop-again c = (
+  omega arith,
+  passed-more _ _ (c .before .before .before .loop .inv .1)
+      (ap not (ne-eqb _ _ (λ e. c .if1 .left (c .before .status-at .ensures ∙ e)))),
+)
 
 returns-2 : tie.Need-returns-2 Inv-loop μ-loop
 returns-2 c =
-    let end : c .before .loop .p ≡ c .before .before .before .args .count = omega arith in
-    sym (all-true (stopped (c .before .before .before .args .roll .now)) (c .before .before .before .args .count) (rw end at (c .before .loop .inv .1)))
+    let args = c .before .before .before .args in
+    let end : c .before .loop .p ≡ args .count = omega arith in
+    sym (all-true (stopped (args .roll .now)) (args .count) (rw end at (c .before .loop .inv .1)))
 
 pub none-runs-spec : {M : Type 1} → statement M
 none-runs-spec =

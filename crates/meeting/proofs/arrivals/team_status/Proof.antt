@@ -18,11 +18,19 @@ all-ended-requires c κs = search needs
 
 returns-2 : tie.Need-returns-2
 unfolding teamStatus
-returns-2 c = rw (sym (c .before .before .before .none-runs .ensures) ∙ not-false _ (c .before .before .if1 .left), sym (c .before .all-ended .ensures) ∙ c .if2 .taken)
+returns-2 c =
+    rw (
+      sym (c .before .before .before .none-runs .ensures) ∙ not-false _ (c .before .before .if1 .left),
+      sym (c .before .all-ended .ensures) ∙ c .if2 .taken,
+    )
 
 returns-3 : tie.Need-returns-3
 unfolding teamStatus
-returns-3 c = rw (sym (c .before .before .before .none-runs .ensures) ∙ not-false _ (c .before .before .if1 .left), sym (c .before .all-ended .ensures) ∙ c .if2 .left)
+returns-3 c =
+    rw (
+      sym (c .before .before .before .none-runs .ensures) ∙ not-false _ (c .before .before .if1 .left),
+      sym (c .before .all-ended .ensures) ∙ c .if2 .left,
+    )
 
 pub team-status-spec : {M : Type 1} → statement M
 team-status-spec =

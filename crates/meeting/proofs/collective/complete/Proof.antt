@@ -22,7 +22,8 @@ taken roll count node q words = popped (received roll count (collectiveOf node) 
 taken-keeps : (roll : List ℕ) (count : ℕ) (node : Node) → KeepsSize (taken roll count node)
 taken-keeps roll count node q words h = popped-length _ ∙ received-length roll count (collectiveOf node) q words ∙ h
 
-still-sized : (roll : List ℕ) (count : ℕ) (node : Node) (state₀ state : List ℕ) (p : ℕ) → p ≤ count → length state₀ ≡ 329 * count
+still-sized : (roll : List ℕ) (count : ℕ) (node : Node) (state₀ state : List ℕ) (p : ℕ) → p ≤ count
+    → length state₀ ≡ 329 * count
     → state ≡ eachProcess (taken roll count node) p state₀ → length state ≡ 329 * count
 still-sized roll count node state₀ state p l sized e =
     ap length e ∙ each-process-length (taken roll count node) state₀ count (taken-keeps roll count node) sized p l ∙ sized
@@ -53,16 +54,29 @@ part-complete-one-start : tie.Need-part-complete-one-start Inv-loop μ-loop
 part-complete-one-start c = omega arith
 
 part-complete-one-end : tie.Need-part-complete-one-end Inv-loop μ-loop
-part-complete-one-end c = omega (arith, still-sized _ _ _ _ _ _ (c .before .loop .inv .0) (c .before .before .before .before .pre .0 .1) (c .before .loop .inv .1))
+part-complete-one-end c =
+    omega (
+      arith,
+      still-sized _ _ _ _ _ _ (c .before .loop .inv .0) (c .before .before .before .before .pre .0 .1)
+          (c .before .loop .inv .1),
+    )
 
 complete-one-requires : tie.Need-complete-one-requires Inv-loop μ-loop
 complete-one-requires c κs =
-    let roll = c .before .before .before .before .before .args .roll .now in
-    let count = c .before .before .before .before .before .args .count in
-    let node = c .before .before .before .before .before .args .node in
-    let p = c .before .before .loop .p in
-    let kept = each-process-kept (taken roll count node) (c .before .before .before .before .before .args .state .now) count (taken-keeps roll count node) (c .before .before .before .before .before .pre .0 .1) p p (omega arith) (c .before .loop-test .taken) in
-    (c .before .before .before .before .before .pre .0 .0, rw (lent (c .before .before .loop .state) p, c .before .before .loop .inv .1, kept) (c .before .before .before .before .before .pre .1 p (c .before .loop-test .taken)), c .before .loop-test .taken)
+    let loop = c .before .before .loop in
+    let args = c .before .before .before .before .before .args in
+    let given = c .before .before .before .before .before .pre in
+    let roll = args .roll .now in
+    let count = args .count in
+    let node = args .node in
+    let p = loop .p in
+    let kept =
+    each-process-kept (taken roll count node) (args .state .now) count (taken-keeps roll count node) (given .0 .1)
+    p p (omega arith) (c .before .loop-test .taken) in (
+      given .0 .0,
+      rw (lent (loop .state) p, loop .inv .1, kept) (given .1 p (c .before .loop-test .taken)),
+      c .before .loop-test .taken,
+    )
 
 add-p : tie.Need-add-p Inv-loop μ-loop
 add-p c = omega arith
@@ -73,27 +87,34 @@ loop-less c = omega arith
 loop-again : tie.Need-loop-again Inv-loop μ-loop
 unfolding eachProcess
 loop-again c =
-    let roll = c .before .before .before .before .before .before .before .before .args .roll .now in
-    let count = c .before .before .before .before .before .before .before .before .args .count in
-    let node = c .before .before .before .before .before .before .before .before .args .node in
-    let p = c .before .before .before .before .before .loop .p in
-    let state = c .before .before .before .before .before .loop .state in
+    let complete-one = c .before .before .complete-one in
+    let loop = c .before .before .before .before .before .loop in
+    let args = c .before .before .before .before .before .before .before .before .args in
+    let roll = args .roll .now in
+    let count = args .count in
+    let node = args .node in
+    let p = loop .p in
+    let state = loop .state in
     let next : p + 1 ≡ suc p = add-one p in (
       omega arith,
-      rw (next, ← c .before .before .before .before .before .loop .inv .1)
-          (back state (c .before .before .complete-one .last .0) p
-          ∙ ap (withProcess state p) (c .before .before .complete-one .ensures ∙ ap (taken roll count node p) (lent state p))),
+      rw (next, ← loop .inv .1)
+          (back state (complete-one .last .0) p
+          ∙ ap (withProcess state p) (complete-one .ensures ∙ ap (taken roll count node p) (lent state p))),
     )
 
 same-length : tie.Need-same-length Inv-loop μ-loop
-same-length c = ap length (c .before .loop .inv .1) ∙ each-process-length _ _ (c .before .before .before .before .args .count) (taken-keeps _ _ _) (c .before .before .before .before .pre .0 .1) _ (c .before .loop .inv .0)
+same-length c =
+    ap length (c .before .loop .inv .1)
+    ∙ each-process-length _ _ (c .before .before .before .before .args .count) (taken-keeps _ _ _)
+    (c .before .before .before .before .pre .0 .1) _ (c .before .loop .inv .0)
 
 returns : tie.Need-returns Inv-loop μ-loop
 unfolding completedState
 returns c =
-    let end : c .before .loop .p ≡ c .before .before .before .before .args .count = omega arith in
+    let args = c .before .before .before .before .args in
+    let end : c .before .loop .p ≡ args .count = omega arith in
     c .before .loop .inv .1
-    ∙ ap (λ n. eachProcess (taken (c .before .before .before .before .args .roll .now) (c .before .before .before .before .args .count) (c .before .before .before .before .args .node)) n (c .before .before .before .before .args .state .now)) end
+    ∙ ap (λ n. eachProcess (taken (args .roll .now) (args .count) (args .node)) n (args .state .now)) end
 
 pub complete-spec : {M : Type 1} → statement M
 complete-spec =

@@ -11,15 +11,19 @@ receive-requires c κs = search needs
 
 pop-requires : tie.Need-pop-requires
 pop-requires c κs =
+    let past = c .before .before .before .before .before .before .before in
+    let args = past .args in
+    let given = past .pre in
     rw (c .before .before .before .receive .ensures)
     (stacked-by (received-length _ _ _ _ _)
-    (received-depth _ _ _ _ _ (c .before .before .before .before .before .before .before .pre .0 .few) (stores-low (c .before .before .before .before .before .before .before .args .node) (c .before .before .before .before .before .before .before .pre .0 .stored))) (c .before .before .before .before .before .before .before .pre .1))
+    (received-depth _ _ _ _ _ (given .0 .few) (stores-low (args .node) (given .0 .stored))) (given .1))
 
 same-length : tie.Need-same-length
 same-length c = search needs
 
 returns : tie.Need-returns
-returns c = rw (← c .before .before .before .before .before .before .receive .ensures) (c .before .before .pop .ensures)
+returns c =
+    rw (← c .before .before .before .before .before .before .receive .ensures) (c .before .before .pop .ensures)
 
 pub complete-one-spec : {M : Type 1} → statement M
 complete-one-spec = tie.close (tie.spec receive-requires pop-requires same-length returns)

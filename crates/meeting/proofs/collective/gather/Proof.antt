@@ -29,7 +29,10 @@ mul-words : tie.Need-mul-words Inv-loop μ-loop
 mul-words c = omega arith
 
 slice-write-words : tie.Need-slice-write-words Inv-loop μ-loop
-slice-write-words c = omega (arith, ap length (c .before .before .loop .inv .1), gathered-length (c .before .before .before .before .before .args .roll .now) (c .before .before .loop .i) (c .before .before .before .before .before .args .words .now))
+slice-write-words c =
+    let loop = c .before .before .loop in
+    let args = c .before .before .before .before .before .args in
+    omega (arith, ap length (loop .inv .1), gathered-length (args .roll .now) (loop .i) (args .words .now))
 
 add-i : tie.Need-add-i Inv-loop μ-loop
 add-i c = omega arith

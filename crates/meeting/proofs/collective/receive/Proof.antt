@@ -16,7 +16,9 @@ same-length c = search needs
 
 returns : tie.Need-returns
 unfolding received
-returns c = rw (is-exchange (c .before .before .before .before .before .before .before .args .node) (c .before .before .before .before .if1 .taken)) (c .before .before .gather .ensures)
+returns c =
+    let args = c .before .before .before .before .before .before .before .args in
+    rw (is-exchange (args .node) (c .before .before .before .before .if1 .taken)) (c .before .before .gather .ensures)
 
 source-of-requires : tie.Need-source-of-requires
 source-of-requires c κs = search needs
@@ -32,21 +34,30 @@ cast-a c = search needs
 
 value-of-requires : tie.Need-value-of-requires
 value-of-requires c κs =
-    let small : c .before .source-of .result % c .before .before .before .before .before .before .args .count < c .before .before .before .before .before .before .args .count = mod-lt _ (omega arith) in
+    let args = c .before .before .before .before .before .before .args in
+    let small : c .before .source-of .result % args .count < args .count = mod-lt _ (omega arith) in
     omega arith
 
 mul-words : tie.Need-mul-words
 mul-words c = search needs
 
 slice-write-words : tie.Need-slice-write-words
-slice-write-words c = omega (arith, c .before .before .before .before .before .before .before .pre .0 .stored (c .before .before .before .if2 .taken))
+slice-write-words c =
+    let given = c .before .before .before .before .before .before .before .pre in
+    omega (arith, given .0 .stored (c .before .before .before .if2 .taken))
 
 same-length-2 : tie.Need-same-length-2
 same-length-2 c = search needs
 
 returns-2 : tie.Need-returns-2
 unfolding received
-returns-2 c = rw (is-broadcast (c .before .before .before .before .before .before .before .args .node) (c .before .before .before .if2 .taken), c .value-of .ensures, c .before .before .source-of .ensures)
+returns-2 c =
+    let args = c .before .before .before .before .before .before .before .args in
+    rw (
+      is-broadcast (args .node) (c .before .before .before .if2 .taken),
+      c .value-of .ensures,
+      c .before .before .source-of .ensures,
+    )
 
 returns-3 : tie.Need-returns-3
 unfolding received

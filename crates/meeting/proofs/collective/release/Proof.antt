@@ -44,10 +44,16 @@ shared-slice-read-release-one c = omega arith
 
 release-one-requires : tie.Need-release-one-requires Inv-loop μ-loop
 release-one-requires c κs =
-    let now = c .before .before .before .loop .inv .1 in
-    let sized = ap length now ∙ each-arrival-length (released (c .before .before .before .before .before .before .args .state .now)) (c .before .before .before .loop .p) (c .before .before .before .before .before .before .args .roll .now) in
-    let kept = each-arrival-kept (released (c .before .before .before .before .before .before .args .state .now)) (c .before .before .before .loop .p) (c .before .before .before .before .before .before .args .roll .now) (c .before .before .before .loop .p) (omega arith) in
-    (omega arith, ap (λ l. statusAt l (c .before .before .before .loop .p)) now ∙ kept .status ∙ c .before .before .before .before .before .before .pre .1 (c .before .before .before .loop .p) (c .before .before .loop-test .taken))
+    let past = c .before .before .before .before .before .before in
+    let loop = c .before .before .before .loop in
+    let args = past .args in
+    let given = past .pre in
+    let now = loop .inv .1 in
+    let sized = ap length now ∙ each-arrival-length (released (args .state .now)) (loop .p) (args .roll .now) in
+    let kept = each-arrival-kept (released (args .state .now)) (loop .p) (args .roll .now) (loop .p) (omega arith) in (
+      omega arith,
+      ap (λ l. statusAt l (loop .p)) now ∙ kept .status ∙ given .1 (loop .p) (c .before .before .loop-test .taken),
+    )
 
 add-p : tie.Need-add-p Inv-loop μ-loop
 add-p c = omega arith
@@ -58,10 +64,13 @@ loop-less c = omega arith
 loop-again : tie.Need-loop-again Inv-loop μ-loop
 unfolding eachArrival depth
 loop-again c =
-    let next : c .before .before .before .before .before .before .loop .p + 1 ≡ suc (c .before .before .before .before .before .before .loop .p) = add-one _ in
-    let state = c .before .before .before .before .before .before .before .before .before .args .state .now in
-    let here : getD (processAt state (c .before .before .before .before .before .before .loop .p)) 72 0 ≡ getD state (329 * c .before .before .before .before .before .before .loop .p + 72) 0 = process-at state (c .before .before .before .before .before .before .loop .p) 72 (omega arith) in
-    (omega arith, rw (next, here, ← c .before .before .before .before .before .before .loop .inv .1) (c .before .before .release-one .ensures))
+    let past = c .before .before .before .before .before .before in
+    let loop = past .loop in
+    let next : loop .p + 1 ≡ suc (loop .p) = add-one _ in
+    let state = past .before .before .before .args .state .now in
+    let here : getD (processAt state (loop .p)) 72 0 ≡ getD state (329 * loop .p + 72) 0 =
+    process-at state (loop .p) 72 (omega arith) in
+    (omega arith, rw (next, here, ← loop .inv .1) (c .before .before .release-one .ensures))
 
 same-length : tie.Need-same-length Inv-loop μ-loop
 same-length c = ap length (c .before .loop .inv .1) ∙ each-arrival-length _ _ _

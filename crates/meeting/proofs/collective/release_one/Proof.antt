@@ -27,18 +27,30 @@ same-length c = search needs
 
 returns : tie.Need-returns
 returns c =
-    let waits = ap (λ r. r .status) (c .before .before .before .before .before .before .read .ensures) ∙ waiting-at _ _ (c .before .before .before .before .before .before .before .before .before .pre .1) in
-    rw (eq-eqb _ _ (c .before .before .before .before .before .if1 .taken))
-    (c .before .before .write .ensures ∙ ap (withArrival (c .before .before .before .before .before .before .before .before .before .args .roll .now) (c .before .before .before .before .before .before .before .before .before .args .p)) (c .before .before .before .end .ensures ∙ end-waiting (c .before .before .before .before .before .before .read .result) waits))
+    let past = c .before .before .before .before .before in
+    let read = past .before .read in
+    let args = past .before .before .before .before .args in
+    let given = past .before .before .before .before .pre in
+    let waits = ap (λ r. r .status) (read .ensures) ∙ waiting-at _ _ (given .1) in
+    rw (eq-eqb _ _ (past .if1 .taken))
+    (c .before .before .write .ensures
+    ∙ ap (withArrival (args .roll .now) (args .p))
+    (c .before .before .before .end .ensures ∙ end-waiting (read .result) waits))
 
 same-length-2 : tie.Need-same-length-2
 same-length-2 c = search needs
 
 returns-2 : tie.Need-returns-2
 returns-2 c =
-    let waits = ap (λ r. r .status) (c .before .before .before .before .before .before .read .ensures) ∙ waiting-at _ _ (c .before .before .before .before .before .before .before .before .before .pre .1) in
-    rw (ne-eqb _ _ (c .before .before .before .before .before .if1 .left))
-    (c .before .before .write2 .ensures ∙ ap (withArrival (c .before .before .before .before .before .before .before .before .before .args .roll .now) (c .before .before .before .before .before .before .before .before .before .args .p)) (c .before .before .before .resume .ensures ∙ resume-waiting (c .before .before .before .before .before .before .read .result) waits))
+    let past = c .before .before .before .before .before in
+    let read = past .before .read in
+    let args = past .before .before .before .before .args in
+    let given = past .before .before .before .before .pre in
+    let waits = ap (λ r. r .status) (read .ensures) ∙ waiting-at _ _ (given .1) in
+    rw (ne-eqb _ _ (past .if1 .left))
+    (c .before .before .write2 .ensures
+    ∙ ap (withArrival (args .roll .now) (args .p))
+    (c .before .before .before .resume .ensures ∙ resume-waiting (read .result) waits))
 
 pub release-one-spec : {M : Type 1} → statement M
 release-one-spec =

@@ -9,6 +9,9 @@ use borrow.Author.Needs.{needs}
 use Rattle.process.proofs.process.advance.Statement.{statement}
 use Rattle.process.proofs.process.advance.Tie as tie
 
+abbrev start : tie.After-struct-known2 → tie.Start
+start c = c .before .before .before .before
+
 cast-a : tie.Need-cast-a
 cast-a c = search needs
 
@@ -16,22 +19,26 @@ cast-b : tie.Need-cast-b
 cast-b c = search needs
 
 assign-requires : tie.Need-assign-requires
-assign-requires c κs = turn-assign (c .before .before .before .before .before .before .pre) (c .before .match .keys1)
+assign-requires c κs = turn-assign (start (c .before .before) .pre) (c .before .match .keys1)
 
 sequence-requires : tie.Need-sequence-requires
-sequence-requires c κs = turn-sequence (c .before .before .before .before .before .before .pre) (c .before .match .keys2)
+sequence-requires c κs = turn-sequence (start (c .before .before) .pre) (c .before .match .keys2)
 
 branch-requires : tie.Need-branch-requires
-branch-requires c κs = turn-branch (c .before .before .before .before .before .before .pre) (c .before .match .keys3)
+branch-requires c κs = turn-branch (start (c .before .before) .pre) (c .before .match .keys3)
 
 repeat-requires : tie.Need-repeat-requires
-repeat-requires c κs = (turn-loop (c .before .before .before .before .before .before .pre) (c .before .match .keys4), turn-repeat (c .before .before .before .before .before .before .pre) (c .before .match .keys4))
+repeat-requires c κs =
+    let given = start (c .before .before) .pre in
+    (turn-loop given (c .before .match .keys4), turn-repeat given (c .before .match .keys4))
 
 call-requires : tie.Need-call-requires
-call-requires c κs = (turn-call (c .before .before .before .before .before .before .pre) (c .before .match .keys5), turn-body (c .before .before .before .before .before .before .pre) (c .before .match .keys5))
+call-requires c κs =
+    let given = start (c .before .before) .pre in
+    (turn-call given (c .before .match .keys5), turn-body given (c .before .match .keys5))
 
 latch-requires : tie.Need-latch-requires
-latch-requires c κs = turn-latch (c .before .before .before .before .before .before .pre) (c .before .match .keys6)
+latch-requires c κs = turn-latch (start (c .before .before) .pre) (c .before .match .keys6)
 
 pop-requires : tie.Need-pop-requires
 pop-requires c κs = search needs
@@ -41,42 +48,60 @@ same-length c = search needs
 
 returns : tie.Need-returns
 unfolding advanced
-returns c = rw (top-statement (c .before .before .before .before .before .before .before .before .before .pre .topped) (assign-of _ (c .before .before .before .before .match .keys1))) (c .before .before .assign .ensures)
+returns c =
+    let arm = c .before .before .before .before in
+    rw (top-statement (start (arm .before) .pre .topped) (assign-of _ (arm .match .keys1)))
+    (c .before .before .assign .ensures)
 
 same-length-2 : tie.Need-same-length-2
 same-length-2 c = search needs
 
 returns-2 : tie.Need-returns-2
 unfolding advanced
-returns-2 c = rw (top-statement (c .before .before .before .before .before .before .before .before .before .pre .topped) (sequence-of _ (c .before .before .before .before .match .keys2))) (c .before .before .sequence .ensures)
+returns-2 c =
+    let arm = c .before .before .before .before in
+    rw (top-statement (start (arm .before) .pre .topped) (sequence-of _ (arm .match .keys2)))
+    (c .before .before .sequence .ensures)
 
 same-length-3 : tie.Need-same-length-3
 same-length-3 c = search needs
 
 returns-3 : tie.Need-returns-3
 unfolding advanced
-returns-3 c = rw (top-statement (c .before .before .before .before .before .before .before .before .before .pre .topped) (branch-of _ (c .before .before .before .before .match .keys3))) (c .before .before .branch .ensures)
+returns-3 c =
+    let arm = c .before .before .before .before in
+    rw (top-statement (start (arm .before) .pre .topped) (branch-of _ (arm .match .keys3)))
+    (c .before .before .branch .ensures)
 
 same-length-4 : tie.Need-same-length-4
 same-length-4 c = search needs
 
 returns-4 : tie.Need-returns-4
 unfolding advanced
-returns-4 c = rw (top-statement (c .before .before .before .before .before .before .before .before .before .pre .topped) (loop-of _ (c .before .before .before .before .match .keys4))) (c .before .before .repeat .ensures)
+returns-4 c =
+    let arm = c .before .before .before .before in
+    rw (top-statement (start (arm .before) .pre .topped) (loop-of _ (arm .match .keys4)))
+    (c .before .before .repeat .ensures)
 
 same-length-5 : tie.Need-same-length-5
 same-length-5 c = search needs
 
 returns-5 : tie.Need-returns-5
 unfolding advanced
-returns-5 c = rw (top-statement (c .before .before .before .before .before .before .before .before .before .pre .topped) (call-of _ (c .before .before .before .before .match .keys5))) (c .before .before .call .ensures)
+returns-5 c =
+    let arm = c .before .before .before .before in
+    rw (top-statement (start (arm .before) .pre .topped) (call-of _ (arm .match .keys5)))
+    (c .before .before .call .ensures)
 
 same-length-6 : tie.Need-same-length-6
 same-length-6 c = search needs
 
 returns-6 : tie.Need-returns-6
 unfolding advanced
-returns-6 c = rw (top-statement (c .before .before .before .before .before .before .before .before .before .pre .topped) (latch-of _ (c .before .before .before .before .match .keys6))) (c .before .before .latch .ensures)
+returns-6 c =
+    let arm = c .before .before .before .before in
+    rw (top-statement (start (arm .before) .pre .topped) (latch-of _ (arm .match .keys6)))
+    (c .before .before .latch .ensures)
 
 same-length-7 : tie.Need-same-length-7
 same-length-7 c = search needs
@@ -84,8 +109,9 @@ same-length-7 c = search needs
 returns-7 : tie.Need-returns-7
 unfolding advanced
 returns-7 c =
-    let from = top-from (c .before .before .before .before .before .before .before .before .before .pre .topped) in
-    rw (top-statement (c .before .before .before .before .before .before .before .before .before .pre .topped) (nothing-of _ (omega arith))) (c .before .before .pop .ensures)
+    let given = start (c .before .before .before .before .before) .pre in
+    let from = top-from (given .topped) in
+    rw (top-statement (given .topped) (nothing-of _ (omega arith))) (c .before .before .pop .ensures)
 
 pub advance-spec : {M : Type 1} → statement M
 advance-spec =

@@ -22,14 +22,18 @@ same-length c = search needs
 
 returns : tie.Need-returns
 unfolding advanced
-returns c = rw (← c .before .before .before .before .before .evaluate .ensures, eq-eqb _ _ (c .before .before .before .before .if1 .taken)) (c .before .before .replace .ensures)
+returns c =
+    let evaluate = c .before .before .before .before .before .evaluate in
+    rw (← evaluate .ensures, eq-eqb _ _ (c .before .before .before .before .if1 .taken)) (c .before .before .replace .ensures)
 
 same-length-2 : tie.Need-same-length-2
 same-length-2 c = search needs
 
 returns-2 : tie.Need-returns-2
 unfolding advanced
-returns-2 c = rw (← c .before .before .before .before .before .evaluate .ensures, ne-eqb _ _ (c .before .before .before .before .if1 .left)) (c .before .before .replace2 .ensures)
+returns-2 c =
+    let evaluate = c .before .before .before .before .before .evaluate in
+    rw (← evaluate .ensures, ne-eqb _ _ (c .before .before .before .before .if1 .left)) (c .before .before .replace2 .ensures)
 
 pub branch-spec : {M : Type 1} → statement M
 branch-spec =

@@ -16,8 +16,13 @@ write-latch-requires c κs = search needs
 
 pop-requires : tie.Need-pop-requires
 pop-requires c κs =
+    let past = c .before .before .before .before .before in
+    let evaluate2 = past .evaluate2 in
+    let evaluate = past .before .before .evaluate in
+    let args = past .before .before .before .before .before .before .args in
+    let given = past .before .before .before .before .before .before .pre in
     rw (c .before .before .before .write-latch .ensures)
-    (stacked-latch (c .before .before .before .before .before .before .before .before .before .before .before .args .words .now) (c .before .before .before .before .before .before .before .evaluate .result) (c .before .before .before .before .before .evaluate2 .result) (c .before .before .before .before .before .before .before .before .before .before .before .pre .1))
+    (stacked-latch (args .words .now) (evaluate .result) (evaluate2 .result) (given .1))
 
 same-length : tie.Need-same-length
 same-length c = search needs
@@ -25,7 +30,11 @@ same-length c = search needs
 returns : tie.Need-returns
 unfolding advanced
 returns c =
-    rw (← c .before .before .before .before .before .before .before .before .before .before .evaluate .ensures, ← c .before .before .before .before .before .before .before .before .evaluate2 .ensures, ← c .before .before .before .before .before .before .write-latch .ensures) (c .before .before .pop .ensures)
+    let past = c .before .before .before .before .before .before in
+    let write-latch = past .write-latch in
+    let evaluate2 = past .before .before .evaluate2 in
+    let evaluate = past .before .before .before .before .evaluate in
+    rw (← evaluate .ensures, ← evaluate2 .ensures, ← write-latch .ensures) (c .before .before .pop .ensures)
 
 pub latch-spec : {M : Type 1} → statement M
 latch-spec =

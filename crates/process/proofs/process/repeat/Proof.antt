@@ -16,21 +16,27 @@ pop-requires c κs = search needs
 
 push-requires : tie.Need-push-requires
 unfolding needsPlace
-push-requires c κs = (c .before .before .before .before .before .before .before .pre .0 .1 .sized, c .before .before .before .before .before .before .before .pre .1 (rw (← c .before .before .evaluate .ensures, ne-eqb _ _ (c .before .if1 .left))))
+push-requires c κs =
+    let given = c .before .before .before .before .before .before .before .pre in
+    (given .0 .1 .sized, given .1 (rw (← c .before .before .evaluate .ensures, ne-eqb _ _ (c .before .if1 .left))))
 
 same-length : tie.Need-same-length
 same-length c = search needs
 
 returns : tie.Need-returns
 unfolding advanced
-returns c = rw (← c .before .before .before .before .before .evaluate .ensures, eq-eqb _ _ (c .before .before .before .before .if1 .taken)) (c .before .before .pop .ensures)
+returns c =
+    let evaluate = c .before .before .before .before .before .evaluate in
+    rw (← evaluate .ensures, eq-eqb _ _ (c .before .before .before .before .if1 .taken)) (c .before .before .pop .ensures)
 
 same-length-2 : tie.Need-same-length-2
 same-length-2 c = search needs
 
 returns-2 : tie.Need-returns-2
 unfolding advanced
-returns-2 c = rw (← c .before .before .before .before .before .evaluate .ensures, ne-eqb _ _ (c .before .before .before .before .if1 .left)) (c .before .before .push .ensures)
+returns-2 c =
+    let evaluate = c .before .before .before .before .before .evaluate in
+    rw (← evaluate .ensures, ne-eqb _ _ (c .before .before .before .before .if1 .left)) (c .before .before .push .ensures)
 
 pub repeat-spec : {M : Type 1} → statement M
 repeat-spec =

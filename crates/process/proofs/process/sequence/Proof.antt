@@ -11,16 +11,20 @@ replace-requires c κs = search needs
 
 push-requires : tie.Need-push-requires
 push-requires c κs =
+    let past = c .before .before .before .before .before .before in
+    let args = past .args in
+    let given = past .pre in
     rw (c .before .before .before .replace .ensures) (
-      replaced-length (c .before .before .before .before .before .before .args .words .now) (c .before .before .before .before .before .before .args .b) ∙ c .before .before .before .before .before .before .pre .0 .sized,
-      omega (arith, replaced-depth (c .before .before .before .before .before .before .args .words .now) (c .before .before .before .before .before .before .pre .0 .sized) (c .before .before .before .before .before .before .args .b) (c .before .before .before .before .before .before .pre .0 .held)),
+      replaced-length (args .words .now) (args .b) ∙ given .0 .sized,
+      omega (arith, replaced-depth (args .words .now) (given .0 .sized) (args .b) (given .0 .held)),
     )
 
 same-length : tie.Need-same-length
 same-length c = search needs
 
 returns : tie.Need-returns
-returns c = rw (← c .before .before .before .before .before .before .replace .ensures) (c .before .before .push .ensures)
+returns c =
+    rw (← c .before .before .before .before .before .before .replace .ensures) (c .before .before .push .ensures)
 
 pub sequence-spec : {M : Type 1} → statement M
 sequence-spec = tie.close (tie.spec replace-requires push-requires same-length returns)

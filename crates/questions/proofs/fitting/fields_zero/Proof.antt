@@ -18,14 +18,23 @@ value-of-requires c κs = search needs
 
 returns-2 : tie.Need-returns-2
 unfolding fieldsZero
-returns-2 c = rw (eq-eqb _ _ (sym (c .before .before .before .node-of .ensures) ∙ c .before .before .if1 .left), ne-eqb _ _ (λ e. c .if2 .taken (c .before .value-of .ensures ∙ e)))
+returns-2 c =
+    rw (
+      eq-eqb _ _ (sym (c .before .before .before .node-of .ensures) ∙ c .before .before .if1 .left),
+      ne-eqb _ _ (λ e. c .if2 .taken (c .before .value-of .ensures ∙ e)),
+    )
 
 source-of-requires : tie.Need-source-of-requires
 source-of-requires c κs = search needs
 
 returns-3 : tie.Need-returns-3
 unfolding fieldsZero
-returns-3 c = rw (eq-eqb _ _ (sym (c .before .before .before .before .node-of .ensures) ∙ c .before .before .before .if1 .left), eq-eqb _ _ (sym (c .before .before .value-of .ensures) ∙ c .before .if2 .left), c .source-of .ensures)
+returns-3 c =
+    rw (
+      eq-eqb _ _ (sym (c .before .before .before .before .node-of .ensures) ∙ c .before .before .before .if1 .left),
+      eq-eqb _ _ (sym (c .before .before .value-of .ensures) ∙ c .before .if2 .left),
+      c .source-of .ensures,
+    )
 
 pub fields-zero-spec : {M : Type 1} → statement M
 fields-zero-spec =

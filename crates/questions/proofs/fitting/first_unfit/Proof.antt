@@ -26,14 +26,24 @@ process-at-requires c κs = omega arith
 
 words-fit-requires : tie.Need-words-fit-requires Inv-loop μ-loop
 words-fit-requires c κs =
-    (c .before .before .before .before .before .before .pre .0, ap length (c .process-at .ensures) ∙ process-length _ (c .before .before .before .before .before .before .args .count) (c .before .before .loop .p) (c .before .before .before .before .before .before .pre .1) (c .before .loop-test .taken), omega arith)
+    let past = c .before .before .before .before .before .before in
+    let args = past .args in
+    let given = past .pre in (
+      given .0,
+      ap length (c .process-at .ensures)
+          ∙ process-length _ (args .count) (c .before .before .loop .p) (given .1) (c .before .loop-test .taken),
+      omega arith,
+    )
 
 returns : tie.Need-returns Inv-loop μ-loop
 unfolding processFits
 returns c =
-    let fails : processFits (c .before .before .before .before .before .before .before .before .args .table .now) (c .before .before .before .before .before .before .before .before .args .state .now) (c .before .before .before .before .before .before .before .before .args .roll .now) (c .before .before .before .before .loop .p) ≡ false =
+    let loop = c .before .before .before .before .loop in
+    let args = c .before .before .before .before .before .before .before .before .args in
+    let fails : processFits (args .table .now) (args .state .now) (args .roll .now) (loop .p) ≡ false =
     rw (← c .before .before .process-at .ensures) (sym (c .before .words-fit .ensures) ∙ not-true _ (c .if1 .taken)) in
-    sym (first-at (processFits (c .before .before .before .before .before .before .before .before .args .table .now) (c .before .before .before .before .before .before .before .before .args .state .now) (c .before .before .before .before .before .before .before .before .args .roll .now)) _ (c .before .before .before .before .loop .p) (c .before .before .before .loop-test .taken) (c .before .before .before .before .loop .inv .1) fails)
+    sym (first-at (processFits (args .table .now) (args .state .now) (args .roll .now)) _ (loop .p)
+    (c .before .before .before .loop-test .taken) (loop .inv .1) fails)
 
 add-p : tie.Need-add-p Inv-loop μ-loop
 add-p c = omega arith
@@ -44,9 +54,14 @@ loop-less c = omega arith
 loop-again : tie.Need-loop-again Inv-loop μ-loop
 unfolding processFits
 loop-again c =
-    let passes : processFits (c .before .before .before .before .before .before .before .before .args .table .now) (c .before .before .before .before .before .before .before .before .args .state .now) (c .before .before .before .before .before .before .before .before .args .roll .now) (c .before .before .before .before .loop .p) ≡ true =
-    rw (← c .before .before .process-at .ensures) (sym (c .before .words-fit .ensures) ∙ not-false _ (c .if1 .left)) in
-    (omega arith, passed-more (processFits (c .before .before .before .before .before .before .before .before .args .table .now) (c .before .before .before .before .before .before .before .before .args .state .now) (c .before .before .before .before .before .before .before .before .args .roll .now)) (c .before .before .before .before .loop .p) (c .before .before .before .before .loop .inv .1) passes)
+    let loop = c .before .before .before .before .loop in
+    let args = c .before .before .before .before .before .before .before .before .args in
+    let passes : processFits (args .table .now) (args .state .now) (args .roll .now) (loop .p) ≡ true =
+    rw (← c .before .before .process-at .ensures) (sym (c .before .words-fit .ensures) ∙ not-false _ (c .if1 .left)) in (
+      omega arith,
+      passed-more (processFits (args .table .now) (args .state .now) (args .roll .now)) (loop .p) (loop .inv .1)
+          passes,
+    )
 
 returns-2 : tie.Need-returns-2 Inv-loop μ-loop
 returns-2 c =

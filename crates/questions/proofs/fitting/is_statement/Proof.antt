@@ -9,10 +9,14 @@ use Rattle.questions.proofs.fitting.is_statement.Statement.{statement}
 use Rattle.questions.proofs.fitting.is_statement.Tie as tie
 
 returns : tie.Need-returns
-returns c = sym (statement-past _ (read-formed (c .before .before .before .pre)) _ (omega (arith, header-nodes (c .before .before .before .pre))))
+returns c =
+    let given = c .before .before .before .pre in
+    sym (statement-past _ (read-formed given) _ (omega (arith, header-nodes given)))
 
 node-at-requires : tie.Need-node-at-requires
-node-at-requires c κs = readable (c .before .before .before .pre) (omega (arith, header-nodes (c .before .before .before .pre)))
+node-at-requires c κs =
+    let given = c .before .before .before .pre in
+    readable given (omega (arith, header-nodes given))
 
 returns-2 : tie.Need-returns-2
 unfolding isStatement

@@ -20,21 +20,30 @@ source-of-requires c κs = search needs
 
 returns-3 : tie.Need-returns-3
 unfolding lackedZero
-returns-3 c = rw (exchange-of (c .before .before .before .before .before .args .node) (c .before .if3 .taken), c .source-of .ensures)
+returns-3 c =
+    rw (exchange-of (c .before .before .before .before .before .args .node) (c .before .if3 .taken), c .source-of .ensures)
 
 value-of-requires : tie.Need-value-of-requires
 value-of-requires c κs = search needs
 
 returns-4 : tie.Need-returns-4
 unfolding lackedZero
-returns-4 c = rw (barrier-of (c .before .before .before .before .before .before .args .node) (omega arith), ne-eqb _ _ (λ e. c .if4 .taken (c .before .value-of .ensures ∙ e)))
+returns-4 c =
+    let args = c .before .before .before .before .before .before .args in
+    rw (barrier-of (args .node) (omega arith), ne-eqb _ _ (λ e. c .if4 .taken (c .before .value-of .ensures ∙ e)))
 
 source-of-requires-2 : tie.Need-source-of-requires-2
 source-of-requires-2 c κs = search needs
 
 returns-5 : tie.Need-returns-5
 unfolding lackedZero
-returns-5 c = rw (barrier-of (c .before .before .before .before .before .before .before .args .node) (omega arith), eq-eqb _ _ (sym (c .before .before .value-of .ensures) ∙ c .before .if4 .left), c .source-of2 .ensures)
+returns-5 c =
+    let args = c .before .before .before .before .before .before .before .args in
+    rw (
+      barrier-of (args .node) (omega arith),
+      eq-eqb _ _ (sym (c .before .before .value-of .ensures) ∙ c .before .if4 .left),
+      c .source-of2 .ensures,
+    )
 
 pub lacked-zero-spec : {M : Type 1} → statement M
 lacked-zero-spec =

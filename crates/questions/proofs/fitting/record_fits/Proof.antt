@@ -22,7 +22,9 @@ fields-zero-requires c κs = search needs
 
 returns : tie.Need-returns
 unfolding recordFits depth
-returns c = rw (sym (c .before .before .before .before .status-at .ensures) ∙ c .before .before .if1 .taken, c .before .if2 .taken) (c .fields-zero .ensures)
+returns c =
+    rw (sym (c .before .before .before .before .status-at .ensures) ∙ c .before .before .if1 .taken, c .before .if2 .taken)
+    (c .fields-zero .ensures)
 
 returns-2 : tie.Need-returns-2
 unfolding recordFits depth
@@ -30,30 +32,44 @@ returns-2 c = rw (sym (c .before .before .before .status-at .ensures) ∙ c .bef
 
 returns-3 : tie.Need-returns-3
 unfolding depth
-returns-3 c = sym (record-empty _ _ _ _ (λ e. c .before .if1 .left (c .before .before .before .status-at .ensures ∙ e)) (c .if3 .taken))
+returns-3 c =
+    sym (record-empty _ _ _ _ (λ e. c .before .if1 .left (c .before .before .before .status-at .ensures ∙ e)) (c .if3 .taken))
 
 fields-zero-requires-2 : tie.Need-fields-zero-requires-2
 fields-zero-requires-2 c κs = search needs
 
 returns-4 : tie.Need-returns-4
 unfolding recordFits depth
-returns-4 c = rw (sym (c .before .before .before .before .before .status-at .ensures) ∙ c .before .if4 .taken, c .before .before .if3 .left) (c .fields-zero2 .ensures)
+returns-4 c =
+    let status-at = c .before .before .before .before .before .status-at in
+    rw (sym (status-at .ensures) ∙ c .before .if4 .taken, c .before .before .if3 .left) (c .fields-zero2 .ensures)
 
 wait-fits-requires : tie.Need-wait-fits-requires
 unfolding depth
 wait-fits-requires c κs =
-    let words = c .before .before .before .before .before .before .before .before .before .args .words .now in
+    let past = c .before .before .before .before .before .before .before .before .before in
+    let given = past .pre in
+    let words = past .args .words .now in
     let some : getD words 72 0 ≡ 0 → ⊥ = eqb-false (getD words 72 0) 0 (c .before .before .if3 .left) in
     let held : 1 ≤ getD words 72 0 = omega arith in
-    (c .before .before .before .before .before .before .before .before .before .pre .0, record { sized = c .before .before .before .before .before .before .before .before .before .pre .1; held = held; bounded = c .before .before .before .before .before .before .before .before .before .pre .2 }, c .before .before .before .before .before .before .before .before .before .pre .3, top-fits _ words (c .before .before .before .before .before .before .before .before .before .pre .4) held)
+    (given .0, record { sized = given .1; held = held; bounded = given .2 }, given .3, top-fits _ words (given .4) held)
 
 returns-5 : tie.Need-returns-5
 unfolding recordFits depth
-returns-5 c = rw (sym (c .before .before .before .before .before .before .status-at .ensures) ∙ c .before .if5 .taken, c .before .before .before .if3 .left) (c .wait-fits .ensures)
+returns-5 c =
+    let status-at = c .before .before .before .before .before .before .status-at in
+    rw (sym (status-at .ensures) ∙ c .before .if5 .taken, c .before .before .before .if3 .left) (c .wait-fits .ensures)
 
 returns-6 : tie.Need-returns-6
 unfolding recordFits depth
-returns-6 c = rw (← c .before .before .before .before .before .status-at .ensures, ne-eqb _ _ (c .before .if4 .left), ne-eqb _ _ (c .if5 .left), ne-eqb _ _ (c .before .before .before .if1 .left))
+returns-6 c =
+    let status-at = c .before .before .before .before .before .status-at in
+    rw (
+      ← status-at .ensures,
+      ne-eqb _ _ (c .before .if4 .left),
+      ne-eqb _ _ (c .if5 .left),
+      ne-eqb _ _ (c .before .before .before .if1 .left),
+    )
 
 pub record-fits-spec : {M : Type 1} → statement M
 record-fits-spec =

@@ -54,7 +54,11 @@ is-statement-requires c κs = c .before .before .before .before .before .before 
 
 returns : tie.Need-returns Inv-loop μ-loop
 unfolding stackFits depth
-returns c = sym (all-false (entry-fits (c .before .before .before .before .before .before .before .before .args .table .now) (c .before .before .before .before .before .before .before .before .args .words .now)) _ (c .before .before .before .before .loop .i) (c .before .before .before .loop-test .taken) (sym (c .before .is-statement .ensures) ∙ not-true _ (c .if1 .taken)))
+returns c =
+    let args = c .before .before .before .before .before .before .before .before .args in
+    sym (all-false (entry-fits (args .table .now) (args .words .now)) _ (c .before .before .before .before .loop .i)
+    (c .before .before .before .loop-test .taken)
+    (sym (c .before .is-statement .ensures) ∙ not-true _ (c .if1 .taken)))
 
 add-i : tie.Need-add-i Inv-loop μ-loop
 unfolding depth
@@ -65,13 +69,18 @@ unfolding depth
 loop-less c = omega arith
 
 loop-again : tie.Need-loop-again Inv-loop μ-loop
-loop-again c = (omega arith, passed-more _ _ (c .before .before .before .before .loop .inv .1) (sym (c .before .is-statement .ensures) ∙ not-false _ (c .if1 .left)))
+loop-again c = (
+  omega arith,
+  passed-more _ _ (c .before .before .before .before .loop .inv .1)
+      (sym (c .before .is-statement .ensures) ∙ not-false _ (c .if1 .left)),
+)
 
 returns-2 : tie.Need-returns-2 Inv-loop μ-loop
 unfolding stackFits depth
 returns-2 c =
-    let end : c .before .loop .i ≡ getD (c .before .before .before .before .before .args .words .now) 72 0 = omega arith in
-    sym (all-true (entry-fits (c .before .before .before .before .before .args .table .now) (c .before .before .before .before .before .args .words .now)) _ (rw end at (c .before .loop .inv .1)))
+    let args = c .before .before .before .before .before .args in
+    let end : c .before .loop .i ≡ getD (args .words .now) 72 0 = omega arith in
+    sym (all-true (entry-fits (args .table .now) (args .words .now)) _ (rw end at (c .before .loop .inv .1)))
 
 pub stack-fits-spec : {M : Type 1} → statement M
 stack-fits-spec =

@@ -19,28 +19,35 @@ node-of-requires c κs = search needs
 
 returns : tie.Need-returns
 unfolding waitFits
-returns c = rw (ne-eqb _ _ (λ e. c .if1 .taken (c .before .before .top .ensures ∙ e ∙ sym (c .before .node-of .ensures))))
+returns c =
+    rw (ne-eqb _ _ (λ e. c .if1 .taken (c .before .before .top .ensures ∙ e ∙ sym (c .before .node-of .ensures))))
 
 cast-node-at : tie.Need-cast-node-at
 cast-node-at c = search needs
 
 node-at-requires : tie.Need-node-at-requires
 node-at-requires c κs =
-    rw (c .before .before .top .ensures) (readable (c .before .before .before .before .before .before .pre .0) (statement-below _ (read-formed (c .before .before .before .before .before .before .pre .0)) _ (c .before .before .before .before .before .before .pre .3)))
+    let given = c .before .before .before .before .before .before .pre in
+    rw (c .before .before .top .ensures) (readable (given .0) (statement-below _ (read-formed (given .0)) _ (given .3)))
 
 lacked-zero-requires : tie.Need-lacked-zero-requires
 lacked-zero-requires c κs =
-    let here = c .node-at .ensures ∙ ap (nodeAt (c .before .before .before .before .before .before .before .args .table .now)) (c .before .before .before .top .ensures) in (
-      c .before .before .before .before .before .before .before .pre .2,
-      kind-to _ (top (c .before .before .before .before .before .before .before .args .words .now)) _ here (c .before .before .before .before .before .before .before .pre .3),
+    let past = c .before .before .before .before .before .before .before in
+    let args = past .args in
+    let given = past .pre in
+    let here = c .node-at .ensures ∙ ap (nodeAt (args .table .now)) (c .before .before .before .top .ensures) in (
+      given .2,
+      kind-to _ (top (args .words .now)) _ here (given .3),
     )
 
 returns-2 : tie.Need-returns-2
 unfolding waitFits statementAt
 returns-2 c =
-    let here = c .before .node-at .ensures ∙ ap (nodeAt (c .before .before .before .before .before .before .before .before .args .table .now)) (c .before .before .before .before .top .ensures) in
-    rw (eq-eqb _ _ (sym (c .before .before .before .before .top .ensures) ∙ c .before .before .if1 .left ∙ c .before .before .before .node-of .ensures))
-    (c .lacked-zero .ensures ∙ ap (λ m. onCollective (statementOf m) (lackedZero (c .before .before .before .before .before .before .before .before .args .roll .now) (c .before .before .before .before .before .before .before .before .args .p)) false) here)
+    let top-call = c .before .before .before .before .top in
+    let args = c .before .before .before .before .before .before .before .before .args in
+    let here = c .before .node-at .ensures ∙ ap (nodeAt (args .table .now)) (top-call .ensures) in
+    rw (eq-eqb _ _ (sym (top-call .ensures) ∙ c .before .before .if1 .left ∙ c .before .before .before .node-of .ensures))
+    (c .lacked-zero .ensures ∙ ap (λ m. onCollective (statementOf m) (lackedZero (args .roll .now) (args .p)) false) here)
 
 pub wait-fits-spec : {M : Type 1} → statement M
 wait-fits-spec =

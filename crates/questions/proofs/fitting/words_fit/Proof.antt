@@ -15,19 +15,34 @@ returns c = rw (lt-leb _ _ (c .if1 .taken))
 
 stack-fits-requires : tie.Need-stack-fits-requires
 unfolding depth
-stack-fits-requires c κs = (c .before .before .before .before .before .pre .0, c .before .before .before .before .before .pre .1, c .if1 .left)
+stack-fits-requires c κs =
+    let given = c .before .before .before .before .before .pre in
+    (given .0, given .1, c .if1 .left)
 
 returns-2 : tie.Need-returns-2
 unfolding depth
-returns-2 c = rw (le-leb _ _ (c .before .before .if1 .left), sym (c .before .stack-fits .ensures) ∙ not-true _ (c .if2 .taken))
+returns-2 c =
+    rw (le-leb _ _ (c .before .before .if1 .left), sym (c .before .stack-fits .ensures) ∙ not-true _ (c .if2 .taken))
 
 record-fits-requires : tie.Need-record-fits-requires
 unfolding depth
-record-fits-requires c κs = (c .before .before .before .before .before .before .before .pre .0, c .before .before .before .before .before .before .before .pre .1, c .before .before .if1 .left, c .before .before .before .before .before .before .before .pre .2, sym (c .before .stack-fits .ensures) ∙ not-false _ (c .if2 .left))
+record-fits-requires c κs =
+    let given = c .before .before .before .before .before .before .before .pre in (
+      given .0,
+      given .1,
+      c .before .before .if1 .left,
+      given .2,
+      sym (c .before .stack-fits .ensures) ∙ not-false _ (c .if2 .left),
+    )
 
 returns-3 : tie.Need-returns-3
 unfolding depth
-returns-3 c = rw (le-leb _ _ (c .before .before .before .if1 .left), sym (c .before .before .stack-fits .ensures) ∙ not-false _ (c .before .if2 .left)) (c .record-fits .ensures)
+returns-3 c =
+    rw (
+      le-leb _ _ (c .before .before .before .if1 .left),
+      sym (c .before .before .stack-fits .ensures) ∙ not-false _ (c .before .if2 .left),
+    )
+    (c .record-fits .ensures)
 
 pub words-fit-spec : {M : Type 1} → statement M
 words-fit-spec =

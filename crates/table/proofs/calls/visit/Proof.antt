@@ -29,20 +29,26 @@ same-length-2 c = search needs
 
 returns-2 : tie.Need-returns-2
 unfolding visitedMarks visitedLowest
-returns-2 c = (
-  simp (← c .before .before .before .before .before .before .before .marked .ensures, not-false (c .before .before .before .before .before .before .before .marked .result) (c .before .before .before .before .before .before .if1 .left), ← c .before .calls-below .ensures, c .if2 .taken),
-  simp (← c .before .before .before .before .before .before .before .marked .ensures, not-false (c .before .before .before .before .before .before .before .marked .result) (c .before .before .before .before .before .before .if1 .left)) (c .before .before .before .before .note-parts .ensures .1),
-)
+returns-2 c =
+    let past = c .before .before .before .before in
+    let if1 = past .before .before .if1 in
+    let marked = past .before .before .before .marked in (
+      simp (← marked .ensures, not-false (marked .result) (if1 .left), ← c .before .calls-below .ensures, c .if2 .taken),
+      simp (← marked .ensures, not-false (marked .result) (if1 .left)) (past .note-parts .ensures .1),
+    )
 
 same-length-3 : tie.Need-same-length-3
 same-length-3 c = search needs
 
 returns-3 : tie.Need-returns-3
 unfolding visitedMarks visitedLowest
-returns-3 c = (
-  simp (← c .before .before .before .before .before .before .before .marked .ensures, not-false (c .before .before .before .before .before .before .before .marked .result) (c .before .before .before .before .before .before .if1 .left), ← c .before .calls-below .ensures, c .if2 .left),
-  simp (← c .before .before .before .before .before .before .before .marked .ensures, not-false (c .before .before .before .before .before .before .before .marked .result) (c .before .before .before .before .before .before .if1 .left)) (c .before .before .before .before .note-parts .ensures .1),
-)
+returns-3 c =
+    let past = c .before .before .before .before in
+    let if1 = past .before .before .if1 in
+    let marked = past .before .before .before .marked in (
+      simp (← marked .ensures, not-false (marked .result) (if1 .left), ← c .before .calls-below .ensures, c .if2 .left),
+      simp (← marked .ensures, not-false (marked .result) (if1 .left)) (past .note-parts .ensures .1),
+    )
 
 pub visit-spec : {M : Type 1} → statement M
 visit-spec =

@@ -13,9 +13,11 @@ body-requires c κs = search needs
 
 returns : tie.Need-returns
 returns c =
-    let t = c .before .before .before .before .args .table .now in
-    let past : nodes t ≤ body t (c .before .before .before .before .args .p) = omega (arith, c .before .before .body .ensures, c .before .before .before .before .pre .0 .nodes-read) in
-    sym (statement-past t (c .before .before .before .before .args .header) (c .before .before .before .before .pre .0) (body t (c .before .before .before .before .args .p)) past)
+    let args = c .before .before .before .before .args in
+    let given = c .before .before .before .before .pre in
+    let t = args .table .now in
+    let past : nodes t ≤ body t (args .p) = omega (arith, c .before .before .body .ensures, given .0 .nodes-read) in
+    sym (statement-past t (args .header) (given .0) (body t (args .p)) past)
 
 is-statement-requires : tie.Need-is-statement-requires
 is-statement-requires c κs = search needs

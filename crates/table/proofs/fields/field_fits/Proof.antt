@@ -14,7 +14,8 @@ expression-part-requires c κs = search needs
 
 returns-2 : tie.Need-returns-2
 unfolding fieldFits
-returns-2 c = simp (ne-eqb _ _ (c .before .before .if1 .left), eq-eqb _ _ (c .before .if2 .taken), c .expression-part .ensures)
+returns-2 c =
+    simp (ne-eqb _ _ (c .before .before .if1 .left), eq-eqb _ _ (c .before .if2 .taken), c .expression-part .ensures)
 
 statement-part-requires : tie.Need-statement-part-requires
 statement-part-requires c κs = search needs
@@ -22,8 +23,12 @@ statement-part-requires c κs = search needs
 returns-3 : tie.Need-returns-3
 unfolding fieldFits
 returns-3 c =
-    simp
-    (ne-eqb _ _ (c .before .before .before .if1 .left), ne-eqb _ _ (c .before .before .if2 .left), eq-eqb _ _ (c .before .if3 .taken), c .statement-part .ensures)
+    simp (
+      ne-eqb _ _ (c .before .before .before .if1 .left),
+      ne-eqb _ _ (c .before .before .if2 .left),
+      eq-eqb _ _ (c .before .if3 .taken),
+      c .statement-part .ensures,
+    )
 
 returns-4 : tie.Need-returns-4
 unfolding fieldFits
@@ -39,8 +44,12 @@ returns-4 c =
 returns-5 : tie.Need-returns-5
 unfolding fieldFits
 returns-5 c =
-    simp
-    (ne-eqb _ _ (c .before .before .before .if1 .left), ne-eqb _ _ (c .before .before .if2 .left), ne-eqb _ _ (c .before .if3 .left), ne-eqb _ _ (c .if4 .left))
+    simp (
+      ne-eqb _ _ (c .before .before .before .if1 .left),
+      ne-eqb _ _ (c .before .before .if2 .left),
+      ne-eqb _ _ (c .before .if3 .left),
+      ne-eqb _ _ (c .if4 .left),
+    )
 
 pub field-fits-spec : {M : Type 1} → statement M
 field-fits-spec =

@@ -19,8 +19,9 @@ field-fits-requires c κs = search needs
 
 returns : tie.Need-returns
 returns c =
+    let args = c .before .before .before .before .before .before .args in
     simp (
-      fits-law (c .before .before .before .before .before .before .args .table .now) (c .before .before .before .before .before .before .args .n),
+      fits-law (args .table .now) (args .n),
       ← c .before .before .before .before .node-at .ensures,
       ← c .before .before .before .role .ensures,
       ← c .before .field-fits .ensures,
@@ -38,12 +39,15 @@ field-fits-requires-2 c κs = search needs
 
 returns-2 : tie.Need-returns-2
 returns-2 c =
+    let past = c .before .before .before .before in
+    let field-fits = past .before .field-fits in
+    let args = past .before .before .before .before .before .before .args in
     simp (
-      fits-law (c .before .before .before .before .before .before .before .before .before .before .args .table .now) (c .before .before .before .before .before .before .before .before .before .before .args .n),
-      ← c .before .before .before .before .before .before .before .before .node-at .ensures,
-      ← c .before .before .before .before .before .before .before .role .ensures,
-      ← c .before .before .before .before .before .field-fits .ensures,
-      not-false (c .before .before .before .before .before .field-fits .result) (c .before .before .before .before .if1 .left),
+      fits-law (args .table .now) (args .n),
+      ← past .before .before .before .before .node-at .ensures,
+      ← past .before .before .before .role .ensures,
+      ← field-fits .ensures,
+      not-false (field-fits .result) (past .if1 .left),
       ← c .before .before .before .role2 .ensures,
       ← c .before .field-fits2 .ensures,
       not-true (c .before .field-fits2 .result) (c .if2 .taken),
@@ -60,15 +64,19 @@ field-fits-requires-3 c κs = search needs
 
 returns-3 : tie.Need-returns-3
 returns-3 c =
+    let past = c .before .before .before .before .before .before in
+    let field-fits2 = c .before .before .before .before .field-fits2 in
+    let field-fits = past .before .before .field-fits in
+    let args = past .before .before .before .before .before .before .before .args in
     simp (
-      fits-law (c .before .before .before .before .before .before .before .before .before .before .before .before .before .args .table .now) (c .before .before .before .before .before .before .before .before .before .before .before .before .before .args .n),
-      ← c .before .before .before .before .before .before .before .before .before .before .before .node-at .ensures,
-      ← c .before .before .before .before .before .before .before .before .before .before .role .ensures,
-      ← c .before .before .before .before .before .before .before .before .field-fits .ensures,
-      not-false (c .before .before .before .before .before .before .before .before .field-fits .result) (c .before .before .before .before .before .before .before .if1 .left),
-      ← c .before .before .before .before .before .before .role2 .ensures,
-      ← c .before .before .before .before .field-fits2 .ensures,
-      not-false (c .before .before .before .before .field-fits2 .result) (c .before .before .before .if2 .left),
+      fits-law (args .table .now) (args .n),
+      ← past .before .before .before .before .before .node-at .ensures,
+      ← past .before .before .before .before .role .ensures,
+      ← field-fits .ensures,
+      not-false (field-fits .result) (past .before .if1 .left),
+      ← past .role2 .ensures,
+      ← field-fits2 .ensures,
+      not-false (field-fits2 .result) (c .before .before .before .if2 .left),
       ← c .before .before .role3 .ensures,
       ← c .field-fits3 .ensures,
     )

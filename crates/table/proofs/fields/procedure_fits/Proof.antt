@@ -21,7 +21,14 @@ body-requires c κs = search needs
 
 returns-2 : tie.Need-returns-2
 unfolding procedureFits procedureWord
-returns-2 c = simp (← c .before .before .before .word .ensures, eq-eqb _ _ (c .before .before .if1 .left), c .before .body .ensures, c .before .before .before .before .before .pre .0 .nodes-read)
+returns-2 c =
+    let given = c .before .before .before .before .before .pre in
+    simp (
+      ← c .before .before .before .word .ensures,
+      eq-eqb _ _ (c .before .before .if1 .left),
+      c .before .body .ensures,
+      given .0 .nodes-read,
+    )
 
 pub procedure-fits-spec : {M : Type 1} → statement M
 procedure-fits-spec = tie.close (tie.spec add-word word-requires returns body-requires returns-2)

@@ -13,8 +13,12 @@ field-zero-requires c κs = search needs
 
 returns : tie.Need-returns
 returns c =
-    simp
-    (zero-law (c .before .before .before .args .node), ← c .before .before .role .ensures, ← c .before .field-zero .ensures, not-true (c .before .field-zero .result) (c .if1 .taken))
+    simp (
+      zero-law (c .before .before .before .args .node),
+      ← c .before .before .role .ensures,
+      ← c .before .field-zero .ensures,
+      not-true (c .before .field-zero .result) (c .if1 .taken),
+    )
 
 role-requires-2 : tie.Need-role-requires-2
 role-requires-2 c κs = search needs
@@ -24,11 +28,13 @@ field-zero-requires-2 c κs = search needs
 
 returns-2 : tie.Need-returns-2
 returns-2 c =
+    let past = c .before .before .before .before in
+    let field-zero = past .field-zero in
     simp (
-      zero-law (c .before .before .before .before .before .before .args .node),
-      ← c .before .before .before .before .before .role .ensures,
-      ← c .before .before .before .before .field-zero .ensures,
-      not-false (c .before .before .before .before .field-zero .result) (c .before .before .before .if1 .left),
+      zero-law (past .before .before .args .node),
+      ← past .before .role .ensures,
+      ← field-zero .ensures,
+      not-false (field-zero .result) (c .before .before .before .if1 .left),
       ← c .before .before .role2 .ensures,
       ← c .before .field-zero2 .ensures,
       not-true (c .before .field-zero2 .result) (c .if2 .taken),
@@ -42,14 +48,17 @@ field-zero-requires-3 c κs = search needs
 
 returns-3 : tie.Need-returns-3
 returns-3 c =
+    let past = c .before .before .before .before in
+    let field-zero2 = c .before .before .before .field-zero2 in
+    let field-zero = past .before .before .field-zero in
     simp (
-      zero-law (c .before .before .before .before .before .before .before .before .args .node),
-      ← c .before .before .before .before .before .before .before .role .ensures,
-      ← c .before .before .before .before .before .before .field-zero .ensures,
-      not-false (c .before .before .before .before .before .before .field-zero .result) (c .before .before .before .before .before .if1 .left),
-      ← c .before .before .before .before .role2 .ensures,
-      ← c .before .before .before .field-zero2 .ensures,
-      not-false (c .before .before .before .field-zero2 .result) (c .before .before .if2 .left),
+      zero-law (past .before .before .before .before .args .node),
+      ← past .before .before .before .role .ensures,
+      ← field-zero .ensures,
+      not-false (field-zero .result) (past .before .if1 .left),
+      ← past .role2 .ensures,
+      ← field-zero2 .ensures,
+      not-false (field-zero2 .result) (c .before .before .if2 .left),
       ← c .before .role3 .ensures,
       ← c .field-zero3 .ensures,
     )

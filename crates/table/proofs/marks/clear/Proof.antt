@@ -11,7 +11,8 @@ use Rattle.table.proofs.marks.clear.Tie as tie
 
 abbrev Inv-loop : tie.InvT-loop
 Inv-loop marks₀ i₀ i-end marks i =
-    (marks ≡ replicate i 0 ++ drop i marks₀) × (length marks ≡ length marks₀) × (i ≤ i-end) × (i-end ≡ length marks₀)
+    (marks ≡ replicate i 0 ++ drop i marks₀) × (length marks ≡ length marks₀)
+    × (i ≤ i-end) × (i-end ≡ length marks₀)
 
 abbrev μ-loop : tie.MeasureT-loop
 μ-loop marks₀ i₀ i-end marks i = i-end - i
@@ -34,8 +35,12 @@ loop-less c = omega arith
 loop-again : tie.Need-loop-again Inv-loop μ-loop
 loop-again c =
     let words = c .before .before .args .marks .now in
-    let i = c .before .loop .i in
-    (rw (c .before .loop .inv .0) (fill-more i 0 words (omega arith)), simp length-set (c .before .loop .inv .1), omega arith, refl)
+    let i = c .before .loop .i in (
+      rw (c .before .loop .inv .0) (fill-more i 0 words (omega arith)),
+      simp length-set (c .before .loop .inv .1),
+      omega arith,
+      refl,
+    )
 
 same-length : tie.Need-same-length Inv-loop μ-loop
 same-length c = c .before .loop .inv .1

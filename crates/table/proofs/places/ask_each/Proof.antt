@@ -8,14 +8,20 @@ use borrow.Author.Needs.{needs}
 use Rattle.table.proofs.places.ask_each.Statement.{statement}
 use Rattle.table.proofs.places.ask_each.Tie as tie
 
-counted : (c : tie.After-places) → c .places .result ≡ placesOf (c .before .before .args .question) (c .before .before .args .table .now)
-counted c = c .places .ensures ∙ simp (c .before .before .pre .nodes-read, c .before .before .pre .procedures-read)
+counted : (c : tie.After-places)
+    → c .places .result ≡ placesOf (c .before .before .args .question) (c .before .before .args .table .now)
+counted c =
+    let given = c .before .before .pre in
+    c .places .ensures ∙ simp (given .nodes-read, given .procedures-read)
 
 -- the place found, by the count of the definition
 found : (c : tie.After-first-failing)
     → c .first-failing .result
-    ≡ firstFailing (testOf (c .before .before .before .args .question) (c .before .before .before .args .table .now)) (placesOf (c .before .before .before .args .question) (c .before .before .before .args .table .now))
-found c = c .first-failing .ensures ∙ ap (firstFailing (testOf (c .before .before .before .args .question) (c .before .before .before .args .table .now))) (counted (c .before))
+    ≡ firstFailing (testOf (c .before .before .before .args .question) (c .before .before .before .args .table .now))
+    (placesOf (c .before .before .before .args .question) (c .before .before .before .args .table .now))
+found c =
+    let args = c .before .before .before .args in
+    c .first-failing .ensures ∙ ap (firstFailing (testOf (args .question) (args .table .now))) (counted (c .before))
 
 places-requires : tie.Need-places-requires
 places-requires c κs = search needs
@@ -25,24 +31,32 @@ first-failing-requires c κs = (c .before .before .pre, counted c)
 
 cast-refused : tie.Need-cast-refused
 cast-refused c =
-    omega
-    (arith, counted (c .before .before), places-few (c .before .before .before .before .args .question) (c .before .before .before .before .args .table .now) (c .before .before .before .before .args .header) (c .before .before .before .before .pre))
+    let args = c .before .before .before .before .args in
+    omega (
+      arith,
+      counted (c .before .before),
+      places-few (args .question) (args .table .now) (args .header) (c .before .before .before .before .pre),
+    )
 
 refused-requires : tie.Need-refused-requires
 refused-requires c κs = search needs
 
 returns : tie.Need-returns
 returns c =
-    let q = c .before .before .before .before .before .args .question in
-    let t = c .before .before .before .before .before .args .table .now in
+    let args = c .before .before .before .before .before .args in
+    let q = args .question in
+    let t = args .table .now in
     c .refused .ensures
-    ∙ sym (each-refused q (placesOf q t) (testOf q t) (c .before .before .first-failing .result) (found (c .before .before)) (rw (← counted (c .before .before .before)) (c .before .if1 .taken)))
+    ∙ sym (each-refused q (placesOf q t) (testOf q t) (c .before .before .first-failing .result)
+    (found (c .before .before)) (rw (← counted (c .before .before .before)) (c .before .if1 .taken)))
 
 returns-2 : tie.Need-returns-2
 returns-2 c =
-    let q = c .before .before .before .before .args .question in
-    let t = c .before .before .before .before .args .table .now in
-    sym (each-accepted q (placesOf q t) (testOf q t) (c .before .first-failing .result) (found (c .before)) (rw (← counted (c .before .before)) (c .if1 .left)))
+    let args = c .before .before .before .before .args in
+    let q = args .question in
+    let t = args .table .now in
+    sym (each-accepted q (placesOf q t) (testOf q t) (c .before .first-failing .result) (found (c .before))
+    (rw (← counted (c .before .before)) (c .if1 .left)))
 
 pub ask-each-spec : {M : Type 1} → statement M
 ask-each-spec =

@@ -20,13 +20,18 @@ loop-holds : tie.Need-loop-holds Inv-loop μ-loop
 loop-holds c = (omega arith, λ k l. absurd (omega arith))
 
 passes-requires : tie.Need-passes-requires Inv-loop μ-loop
-passes-requires c κs = (c .before .before .before .pre .0, rw (← c .before .before .before .pre .1) (c .loop-test .taken))
+passes-requires c κs =
+    let given = c .before .before .before .pre in
+    (given .0, rw (← given .1) (c .loop-test .taken))
 
 returns : tie.Need-returns Inv-loop μ-loop
 returns c =
-    let fails : testOf (c .before .before .before .before .before .args .question) (c .before .before .before .before .before .args .table .now) (c .before .before .before .loop .i) ≡ false =
+    let loop = c .before .before .before .loop in
+    let args = c .before .before .before .before .before .args in
+    let fails : testOf (args .question) (args .table .now) (loop .i) ≡ false =
     sym (c .before .passes .ensures) ∙ not-true (c .before .passes .result) (c .if1 .taken) in
-    sym (first-at (testOf (c .before .before .before .before .before .args .question) (c .before .before .before .before .before .args .table .now)) (c .before .before .before .before .before .args .count) (c .before .before .before .loop .i) (c .before .before .loop-test .taken) (c .before .before .before .loop .inv .1) fails)
+    sym (first-at (testOf (args .question) (args .table .now)) (args .count) (loop .i)
+    (c .before .before .loop-test .taken) (loop .inv .1) fails)
 
 add-i : tie.Need-add-i Inv-loop μ-loop
 add-i c = omega arith
@@ -35,10 +40,16 @@ loop-less : tie.Need-loop-less Inv-loop μ-loop
 loop-less c = omega arith
 
 loop-again : tie.Need-loop-again Inv-loop μ-loop
-loop-again c = (omega arith, below-more _ _ (c .before .before .before .loop .inv .1) (sym (c .before .passes .ensures) ∙ not-false (c .before .passes .result) (c .if1 .left)))
+loop-again c = (
+  omega arith,
+  below-more _ _ (c .before .before .before .loop .inv .1)
+      (sym (c .before .passes .ensures) ∙ not-false (c .before .passes .result) (c .if1 .left)),
+)
 
 returns-2 : tie.Need-returns-2 Inv-loop μ-loop
-returns-2 c = sym (first-none (testOf (c .before .before .before .args .question) (c .before .before .before .args .table .now)) (c .before .before .before .args .count) (λ k l. c .before .loop .inv .1 k (omega arith)))
+returns-2 c =
+    let args = c .before .before .before .args in
+    sym (first-none (testOf (args .question) (args .table .now)) (args .count) (λ k l. c .before .loop .inv .1 k (omega arith)))
 
 pub first-failing-spec : {M : Type 1} → statement M
 first-failing-spec =

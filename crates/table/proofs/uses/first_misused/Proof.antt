@@ -12,17 +12,21 @@ note-nodes-requires : tie.Need-note-nodes-requires
 note-nodes-requires c κs = search needs
 
 note-bodies-requires : tie.Need-note-bodies-requires
-note-bodies-requires c κs = (c .before .before .before .before .before .before .before .pre .0, omega (arith, c .before .before .before .note-nodes .kept, ap length (c .before .before .before .before .before .before .before .pre .1)))
+note-bodies-requires c κs =
+    let given = c .before .before .before .before .before .before .before .pre in
+    (given .0, omega (arith, c .before .before .before .note-nodes .kept, ap length (given .1)))
 
 first-unmarked-requires : tie.Need-first-unmarked-requires
 first-unmarked-requires c κs =
+    let past = c .before .before .before .before .before .before .before in
+    let given = past .before .before .before .before .pre in
     omega (
       arith,
       c .before .before .before .note-bodies .kept,
-      c .before .before .before .before .before .before .before .note-nodes .kept,
-      ap length (c .before .before .before .before .before .before .before .before .before .before .before .pre .1),
-      c .before .before .before .before .before .before .before .before .before .before .before .pre .0 .sized .nodes-read,
-      c .before .before .before .before .before .before .before .before .before .before .before .pre .0 .sized .nodes-high,
+      past .note-nodes .kept,
+      ap length (given .1),
+      given .0 .sized .nodes-read,
+      given .0 .sized .nodes-high,
     )
 
 clear-requires : tie.Need-clear-requires
@@ -36,13 +40,19 @@ same-length c = search needs
 
 returns : tie.Need-returns
 returns c =
-    let t = c .before .before .before .before .before .before .before .before .before .before .before .before .before .before .before .before .before .args .table .now in
-    let s = c .before .before .before .before .before .before .before .before .before .before .before .before .before .before .before .before .before .pre .0 .sized in (
-      once-answer t (s .nodes-high) (c .before .before .before .before .before .before .before .before .before .before .before .before .before .before .before .before .before .args .marks .now) _ _ (c .before .before .before .before .before .before .before .before .before .before .before .before .before .note-nodes .result) (c .before .before .before .before .before .before .before .before .before .note-bodies .result)
-          (c .before .before .before .before .before .first-unmarked .result) (c .smaller .result) (c .before .before .before .before .before .before .before .before .before .before .before .before .before .before .before .before .before .args .header .nodes) (c .before .before .before .before .before .before .before .before .before .before .before .before .before .before .before .before .before .pre .1) (s .nodes-read)
-          (c .before .before .before .before .before .before .before .before .before .before .before .before .before .note-nodes .ensures) (c .before .before .before .before .before .before .before .before .before .note-bodies .ensures) (c .before .before .before .before .before .first-unmarked .ensures) (c .smaller .ensures),
-      cleared {n = 8} _ (c .before .before .before .before .before .before .before .before .before .note-bodies .last .1 .1 .0) (c .before .before .before .clear .ensures)
-          (omega (arith, c .before .before .before .before .before .before .before .before .before .note-bodies .kept, c .before .before .before .before .before .before .before .before .before .before .before .before .before .note-nodes .kept, ap length (c .before .before .before .before .before .before .before .before .before .before .before .before .before .before .before .before .before .pre .1))),
+    let past = c .before .before .before .before .before .before .before .before .before in
+    let first-unmarked = c .before .before .before .before .before .first-unmarked in
+    let note-bodies = past .note-bodies in
+    let note-nodes = past .before .before .before .before .note-nodes in
+    let args = past .before .before .before .before .before .before .before .before .args in
+    let given = past .before .before .before .before .before .before .before .before .pre in
+    let t = args .table .now in
+    let s = given .0 .sized in (
+      once-answer t (s .nodes-high) (args .marks .now) _ _ (note-nodes .result) (note-bodies .result)
+          (first-unmarked .result) (c .smaller .result) (args .header .nodes) (given .1) (s .nodes-read)
+          (note-nodes .ensures) (note-bodies .ensures) (first-unmarked .ensures) (c .smaller .ensures),
+      cleared {n = 8} _ (note-bodies .last .1 .1 .0) (c .before .before .before .clear .ensures)
+          (omega (arith, note-bodies .kept, note-nodes .kept, ap length (given .1))),
     )
 
 pub first-misused-spec : {M : Type 1} → statement M

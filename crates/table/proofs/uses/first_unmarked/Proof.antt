@@ -23,8 +23,10 @@ marked-requires c κs = omega arith
 
 returns : tie.Need-returns Inv-loop μ-loop
 returns c =
+    let loop = c .before .before .before .loop in
+    let args = c .before .before .before .before .before .args in
     sym
-    (first-at (bitAt (c .before .before .before .before .before .args .marks .now)) (c .before .before .before .before .before .args .count) (c .before .before .before .loop .n) (c .before .before .loop-test .taken) (c .before .before .before .loop .inv .1)
+    (first-at (bitAt (args .marks .now)) (args .count) (loop .n) (c .before .before .loop-test .taken) (loop .inv .1)
     (sym (c .before .marked .ensures) ∙ not-true (c .before .marked .result) (c .if1 .taken)))
 
 add-n : tie.Need-add-n Inv-loop μ-loop
@@ -34,10 +36,16 @@ loop-less : tie.Need-loop-less Inv-loop μ-loop
 loop-less c = omega arith
 
 loop-again : tie.Need-loop-again Inv-loop μ-loop
-loop-again c = (omega arith, below-more _ _ (c .before .before .before .loop .inv .1) (sym (c .before .marked .ensures) ∙ not-false (c .before .marked .result) (c .if1 .left)))
+loop-again c = (
+  omega arith,
+  below-more _ _ (c .before .before .before .loop .inv .1)
+      (sym (c .before .marked .ensures) ∙ not-false (c .before .marked .result) (c .if1 .left)),
+)
 
 returns-2 : tie.Need-returns-2 Inv-loop μ-loop
-returns-2 c = sym (first-none (bitAt (c .before .before .before .args .marks .now)) (c .before .before .before .args .count) (λ k l. c .before .loop .inv .1 k (omega arith)))
+returns-2 c =
+    let args = c .before .before .before .args in
+    sym (first-none (bitAt (args .marks .now)) (args .count) (λ k l. c .before .loop .inv .1 k (omega arith)))
 
 pub first-unmarked-spec : {M : Type 1} → statement M
 first-unmarked-spec =

@@ -16,7 +16,9 @@ same-length c = search needs
 
 returns : tie.Need-returns
 unfolding noted withBit
-returns c = (simp (← c .before .before .marked .ensures, c .before .if1 .taken, c .smaller .ensures), simp (← c .before .before .marked .ensures, c .before .if1 .taken))
+returns c =
+    let marked = c .before .before .marked in
+    (simp (← marked .ensures, c .before .if1 .taken, c .smaller .ensures), simp (← marked .ensures, c .before .if1 .taken))
 
 mark-requires : tie.Need-mark-requires
 mark-requires c κs = search needs
@@ -26,7 +28,9 @@ same-length-2 c = search needs
 
 returns-2 : tie.Need-returns-2
 unfolding noted
-returns-2 c = (simp (← c .before .before .before .before .before .marked .ensures, c .before .before .before .before .if1 .left), c .before .before .mark .ensures)
+returns-2 c =
+    let marked = c .before .before .before .before .before .marked in
+    (simp (← marked .ensures, c .before .before .before .before .if1 .left), c .before .before .mark .ensures)
 
 pub note-spec : {M : Type 1} → statement M
 note-spec =

@@ -11,14 +11,19 @@ is-part-requires : tie.Need-is-part-requires
 is-part-requires c κs = search needs
 
 note-requires : tie.Need-note-requires
-note-requires c κs = c .before .before .before .before .pre (sym (c .before .before .is-part .ensures) ∙ c .before .if1 .taken)
+note-requires c κs =
+    c .before .before .before .before .pre (sym (c .before .before .is-part .ensures) ∙ c .before .if1 .taken)
 
 same-length : tie.Need-same-length
 same-length c = search needs
 
 returns : tie.Need-returns
 unfolding fieldParts withBits repeated
-returns c = (simp (← c .before .before .before .before .before .is-part .ensures, c .before .before .before .before .if1 .taken, c .before .before .note .ensures .0), simp (← c .before .before .before .before .before .is-part .ensures, c .before .before .before .before .if1 .taken, c .before .before .note .ensures .1))
+returns c =
+    let note = c .before .before .note in
+    let if1 = c .before .before .before .before .if1 in
+    let is-part = c .before .before .before .before .before .is-part in
+    (simp (← is-part .ensures, if1 .taken, note .ensures .0), simp (← is-part .ensures, if1 .taken, note .ensures .1))
 
 returns-2 : tie.Need-returns-2
 unfolding fieldParts withBits repeated
