@@ -34,22 +34,28 @@ fn is_statement(table: &[u8], header: Header, n: usize) -> bool
     kind <= 25
 }
 
-// "each stack entry below depth a statement"
+// "each stack entry below depth a statement". Two entries a turn: with one, the turn itself is a third of the time.
 fn stack_fits(table: &[u8], header: Header, words: &[u32]) -> bool
     requires { ⌜ Read (now table) header × (length (now words) ≡ 329) × (depth (now words) ≤ 256) ⌝ }
     ensures { λ r. ⌜ r ≡ stackFits (now (table .entry)) (now (words .entry)) ⌝ }
 {
     let depth = words[72] as usize;
+    let pairs = depth / 2;
     let mut i = 0;
-    while i < depth {
-        let at = 73 + i;
-        let entry = words[at] as usize;
-        if !is_statement(table, header, entry) {
+    while i < pairs {
+        let at = 73 + 2 * i;
+        if !is_statement(table, header, words[at] as usize) {
+            return false;
+        }
+        if !is_statement(table, header, words[at + 1] as usize) {
             return false;
         }
         i += 1;
     }
-    true
+    if depth % 2 == 0 {
+        return true;
+    }
+    is_statement(table, header, words[72 + depth] as usize)
 }
 
 fn fields_zero(roll: &[u32], p: usize) -> bool
