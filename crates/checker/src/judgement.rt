@@ -17,14 +17,14 @@ use table::words::node_at;
 // The effect plane follows the single plane.
 const EFFECTS: usize = 256;
 
-pub fn single(planes: &[u32], n: u32) -> bool
+pub(crate) fn single(planes: &[u32], n: u32) -> bool
     requires { ⌜ (length (now planes) ≡ planeWords) × (n < 256) ⌝ }
     ensures { λ r. ⌜ r ≡ singleBit (now (planes .entry)) n ⌝ }
 {
     marked(planes, n as usize)
 }
 
-pub fn effect(planes: &[u32], n: u32) -> bool
+pub(crate) fn effect(planes: &[u32], n: u32) -> bool
     requires { ⌜ (length (now planes) ≡ planeWords) × (n < 256) ⌝ }
     ensures { λ r. ⌜ r ≡ effectBit (now (planes .entry)) n ⌝ }
 {
@@ -98,7 +98,7 @@ fn judge_node(table: &[u8], header: Header, planes: &mut [u32], n: usize)
     }
 }
 
-pub fn judge_nodes(table: &[u8], header: Header, planes: &mut [u32])
+pub(crate) fn judge_nodes(table: &[u8], header: Header, planes: &mut [u32])
     requires { ⌜ Headed (now table) header × (now planes ≡ replicate planeWords 0) ⌝ }
     ensures { λ _. ⌜ Judged (now (table .entry)) (now (planes .exit)) (nodes (now (table .entry))) ⌝ }
 {

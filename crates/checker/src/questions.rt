@@ -173,7 +173,7 @@ fn first_refusal(first: Verdict, next: Verdict) -> Verdict
     }
 }
 
-pub fn ask(table: &[u8], header: Header, planes: &[u32]) -> Verdict
+pub(crate) fn ask(table: &[u8], header: Header, planes: &[u32]) -> Verdict
     requires { ⌜ Ready (now table) header (now planes) ⌝ }
     ensures { λ r. ⌜ r ≡ judged (now (table .entry)) ⌝ }
 {

@@ -51,7 +51,7 @@ fn given_to(words: &[u32], size: usize, p: usize) -> &[u32]
     &words[from..to]
 }
 
-pub fn start_state(table: &[u8], count: u32, words: &[u32], state: &mut [u32])
+pub(crate) fn start_state(table: &[u8], count: u32, words: &[u32], state: &mut [u32])
     requires { ⌜ Startable (now table) count (now words) (now state) ⌝ }
     ensures { λ _. ⌜ now (state .exit) ≡ startState (now (table .entry)) count (now (words .entry)) (now (state .entry)) ⌝ }
 {
@@ -68,7 +68,7 @@ pub fn start_state(table: &[u8], count: u32, words: &[u32], state: &mut [u32])
     }
 }
 
-pub fn start_roll(roll: &mut [u32], count: usize)
+pub(crate) fn start_roll(roll: &mut [u32], count: usize)
     requires { ⌜ length (now roll) ≡ 4 * count ⌝ }
     ensures { λ _. ⌜ now (roll .exit) ≡ startRoll count (now (roll .entry)) ⌝ }
 {

@@ -157,7 +157,7 @@ fn run(
 }
 
 // "idle while waiting, idle after its end": "An idle turn changes nothing."
-pub fn take_turn(
+pub(crate) fn take_turn(
     table: &[u8],
     header: Header,
     state: &mut [u32],

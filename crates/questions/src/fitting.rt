@@ -144,7 +144,13 @@ fn words_fit(table: &[u8], header: Header, words: &[u32], roll: &[u32], p: usize
 }
 
 // "for 23 and 24 the first bank failing"
-pub fn first_unfit(table: &[u8], header: Header, state: &[u32], roll: &[u32], count: usize) -> usize
+pub(crate) fn first_unfit(
+    table: &[u8],
+    header: Header,
+    state: &[u32],
+    roll: &[u32],
+    count: usize,
+) -> usize
     requires { ⌜ Read (now table) header × (length (now state) ≡ 329 * count) × (length (now roll) ≡ 4 * count) ⌝ }
     ensures { λ r. ⌜ r ≡ firstFailing (processFits (now (table .entry)) (now (state .entry)) (now (roll .entry))) count ⌝ }
 {

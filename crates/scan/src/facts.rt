@@ -5,7 +5,7 @@ ghost use Prim.Native.Nat.{_≤_};
 ghost use lib.ListN.{length};
 ghost use Rattle.scan.specs.Facts.{ofExpression, ofStatement, factOf, without};
 
-pub fn take(facts: &mut [u32], n: usize, a: u32) -> u32
+pub(crate) fn take(facts: &mut [u32], n: usize, a: u32) -> u32
     requires { ⌜ n ≤ length (now facts) ⌝ }
     ensures { λ r. ⌜ r ≡ factOf (now (facts .entry)) n a ⌝ }
     ensures { λ r. ⌜ now (facts .exit) ≡ without (now (facts .entry)) n a ⌝ }
@@ -19,13 +19,13 @@ pub fn take(facts: &mut [u32], n: usize, a: u32) -> u32
     word
 }
 
-pub fn of_expression(word: u32) -> bool
+pub(crate) fn of_expression(word: u32) -> bool
     ensures { λ r. ⌜ r ≡ ofExpression word ⌝ }
 {
     word / 2 % 2 == 1
 }
 
-pub fn of_statement(word: u32) -> bool
+pub(crate) fn of_statement(word: u32) -> bool
     ensures { λ r. ⌜ r ≡ ofStatement word ⌝ }
 {
     word / 4 % 2 == 1

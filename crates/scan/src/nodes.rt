@@ -289,7 +289,13 @@ fn broadcast(table: &[u8], header: Header, facts: &mut [u32], n: usize, strict: 
 }
 
 // The word of node n, or 0 where it fails a question. Its parts are then taken, unless it is 0.
-pub fn scan_node(table: &[u8], header: Header, facts: &mut [u32], n: usize, strict: bool) -> u32
+pub(crate) fn scan_node(
+    table: &[u8],
+    header: Header,
+    facts: &mut [u32],
+    n: usize,
+    strict: bool,
+) -> u32
     requires { ⌜ Sized (now table) header × (n < header .nodes) × (length (now facts) ≡ 256) ⌝ }
     ensures { λ r. ⌜ r ≡ nodeWord (now (table .entry)) (now (facts .entry)) n strict ⌝ }
     ensures { λ r. ⌜ ((r ≡ 0 → ⊥)

@@ -69,7 +69,7 @@ fn first_high_call(table: &[u8], header: Header, marks: &mut [u32], p: usize) ->
     lowest
 }
 
-pub fn first_miscalled(table: &[u8], header: Header, marks: &mut [u32]) -> usize
+pub(crate) fn first_miscalled(table: &[u8], header: Header, marks: &mut [u32]) -> usize
     requires { ⌜ Fitting (now table) header × (now marks ≡ replicate 8 0) ⌝ }
     ensures { λ r. ⌜ r ≡ firstFailing (λ n. calledBelow (now (table .entry)) n (statementAt (now (table .entry)) n)) (nodes (now (table .entry))) ⌝ }
     ensures { λ r. ⌜ now (marks .exit) ≡ replicate 8 0 ⌝ }

@@ -75,7 +75,7 @@ fn ask_each(table: &[u8], header: Header, question: u32) -> Verdict
     }
 }
 
-pub fn refuses(verdict: Verdict) -> bool
+pub(crate) fn refuses(verdict: Verdict) -> bool
     ensures { λ r. ⌜ r ≡ refuses verdict ⌝ }
 {
     match verdict {
@@ -84,7 +84,7 @@ pub fn refuses(verdict: Verdict) -> bool
     }
 }
 
-pub fn contents(table: &[u8], header: Header) -> Verdict
+pub(crate) fn contents(table: &[u8], header: Header) -> Verdict
     requires { ⌜ Sized (now table) header ⌝ }
     ensures { λ r. ⌜ r ≡ contentsVerdict (now (table .entry)) ⌝ }
 {

@@ -23,7 +23,7 @@ use crate::marks::marked;
 use crate::words::body;
 use crate::words::node_at;
 
-pub fn smaller(a: usize, b: usize) -> usize
+pub(crate) fn smaller(a: usize, b: usize) -> usize
     ensures { λ r. ⌜ r ≡ min a b ⌝ }
 {
     if a < b { a } else { b }
@@ -61,7 +61,13 @@ fn note_field(marks: &mut [u32], lowest: usize, role: u16, value: usize) -> usiz
     lowest
 }
 
-pub fn note_parts(table: &[u8], header: Header, marks: &mut [u32], lowest: usize, n: usize) -> usize
+pub(crate) fn note_parts(
+    table: &[u8],
+    header: Header,
+    marks: &mut [u32],
+    lowest: usize,
+    n: usize,
+) -> usize
     requires { ⌜ Fitting (now table) header × (n < header .nodes) × (length (now marks) ≡ 8) ⌝ }
     ensures { λ r. ⌜ Noting (now (marks .entry)) lowest (partsAt (now (table .entry)) n) r (now (marks .exit)) ⌝ }
 {
@@ -113,7 +119,7 @@ fn first_unmarked(marks: &[u32], count: usize) -> usize
     count
 }
 
-pub fn first_misused(table: &[u8], header: Header, marks: &mut [u32]) -> usize
+pub(crate) fn first_misused(table: &[u8], header: Header, marks: &mut [u32]) -> usize
     requires { ⌜ Fitting (now table) header × (now marks ≡ replicate 8 0) ⌝ }
     ensures { λ r. ⌜ r ≡ firstFailing (usedOnce (now (table .entry))) (nodes (now (table .entry))) ⌝ }
     ensures { λ r. ⌜ now (marks .exit) ≡ replicate 8 0 ⌝ }
