@@ -11,8 +11,8 @@ use lib.ListN.{length, set, take, drop, replicate, length-set, length-append, le
 use lib.Seq.{getD-at, getD-append-add}
 use borrow.Author.Tests.{ltb-true, eqb-true}
 use Rattle.rules.specs.Collective.{received}
-use Rattle.rules.specs.Evaluation.{Environment, value, doors}
-use Rattle.rules.specs.Process.{variablePlaces, gatheredPlaces, latchesAt, depthAt, stackAt, stackPlaces, processWords}
+use Rattle.rules.specs.Evaluation.{Environment, value}
+use Rattle.rules.specs.Process.{variablePlaces, gatheredPlaces, latchPlaces, mostProcesses, latchesAt, depthAt, stackAt, stackPlaces, processWords}
 use Rattle.rules.specs.Process.{processAt, environment, depth, top, popped, replaced, pushed, advanced, needsPlace}
 use Rattle.rules.specs.Start.{startSize, startProcess}
 use Rattle.rules.specs.Step.{stackFits, placeLacked}
@@ -95,16 +95,16 @@ placed-set table words a v h placed =
     placed-kept table words (set words a v) (set-depth words a v h) (λ i. set-entry words a v i h) placed
 
 placed-latched : (table words : List ℕ) (x v : ℕ) → Placed table words
-    → Placed table (cond (ltb x doors) (set words (latchesAt + x) v) words)
+    → Placed table (cond (ltb x latchPlaces) (set words (latchesAt + x) v) words)
 placed-latched table words x v placed =
     ⊎-elim
-    (λ (e : ltb x doors ≡ true). rw e (placed-set table words (latchesAt + x) v (omega (arith, ltb-true x doors e)) placed))
-    (λ (e : ltb x doors ≡ false). rw e placed)
-    (bool-cases (ltb x doors))
+    (λ (e : ltb x latchPlaces ≡ true). rw e (placed-set table words (latchesAt + x) v (omega (arith, ltb-true x latchPlaces e)) placed))
+    (λ (e : ltb x latchPlaces ≡ false). rw e placed)
+    (bool-cases (ltb x latchPlaces))
 
 -- a process takes away what a collective gives, and its top goes
 pub placed-received : (table roll : List ℕ) (count : ℕ) (k : Collective) (p : ℕ) (words : List ℕ)
-    → length words ≡ processWords → Placed table words → count ≤ 16 → StoresLow k
+    → length words ≡ processWords → Placed table words → count ≤ mostProcesses → StoresLow k
     → Placed table (popped (received roll count k p words))
 placed-received table roll count k p words sized placed h low =
     placed-popped table (received roll count k p words) (received-length roll count k p words ∙ sized)
@@ -162,8 +162,8 @@ module _ (table : List ℕ) (f : Formed table) (words : List ℕ) (sized : lengt
     advanced-by (latch a b) e =
         let x = value table env a in
         let v = value table env b in
-        placed-popped table (cond (ltb x doors) (set words (latchesAt + x) v) words)
-        (latched-length words (ltb x doors) (latchesAt + x) v ∙ sized) (placed-latched table words x v placed)
+        placed-popped table (cond (ltb x latchPlaces) (set words (latchesAt + x) v) words)
+        (latched-length words (ltb x latchPlaces) (latchesAt + x) v ∙ sized) (placed-latched table words x v placed)
     advanced-by (collective k) e = placed
 
     -- a step of a statement that is no collective keeps the homes; a collective is left where it is
@@ -233,7 +233,7 @@ module _ (table : List ℕ) (f : Formed table) (given : List ℕ) (sized : lengt
   low =
       (((take (variables table) given ++ replicate (variablePlaces - variables table) 0) ++ replicate gatheredPlaces 0)
       ++ drop (variables table) given)
-      ++ replicate doors 0
+      ++ replicate latchPlaces 0
 
   low-length : length low ≡ depthAt
   unfolding low startSize

@@ -9,7 +9,8 @@ use lib.Dec.{ltb}
 use lib.ListN.{getD}
 use borrow.Author.Tests.{ltb-true}
 use Rattle.rules.specs.declared.Node.{Node}
-use Rattle.rules.specs.Table.{variables, procedures, nodeAt, expressionOf, statementOf, expressionAt, statementAt}
+use Rattle.rules.specs.Table.{firstStatement, variables, procedures, nodeAt}
+use Rattle.rules.specs.Table.{expressionOf, statementOf, expressionAt, statementAt}
 use Rattle.rules.specs.Table.{Operator, sum, difference, product, quotient, less, equal, both}
 use Rattle.rules.specs.Table.{Expression, variable, door, slot, operation}
 use Rattle.rules.specs.Table.{Statement, nothing, assign, sequence, branch, loop, call, latch, collective}
@@ -92,7 +93,7 @@ module _ (m : Node) where
 
 -- kinds below 23 are no collective
 module _ {A : Type 0} (m : Node) (meet : Collective → A) (other : A) where
-  alone-at : (j : ℕ) → m .kind - 16 ≡ j → j < 7 → onCollective (statementOf m) meet other ≡ other
+  alone-at : (j : ℕ) → m .kind - firstStatement ≡ j → j < 7 → onCollective (statementOf m) meet other ≡ other
   unfolding statementOf
   alone-at zero e h = rw e
   alone-at (suc zero) e h = rw e
@@ -104,7 +105,7 @@ module _ {A : Type 0} (m : Node) (meet : Collective → A) (other : A) where
   alone-at (suc (suc (suc (suc (suc (suc (suc j))))))) e h = absurd (omega arith)
 
   pub alone-of : m .kind < 23 → onCollective (statementOf m) meet other ≡ other
-  alone-of h = alone-at (m .kind - 16) refl (omega arith)
+  alone-of h = alone-at (m .kind - firstStatement) refl (omega arith)
 
 -- the fields of a node m that a well-formed table has at n
 module _ (table : List ℕ) (formed : Formed table) (n : ℕ) (m : Node) (here : m ≡ nodeAt table n) where

@@ -12,8 +12,8 @@ use lib.ListN.{length, getD, set, length-set}
 use lib.Seq.{getD-set-same, getD-set-other}
 use Rattle.rules.specs.Arrivals.{arrivalValue}
 use Rattle.rules.specs.Collective.{gatheredFrom, received}
-use Rattle.rules.specs.Evaluation.{Environment, value, doors}
-use Rattle.rules.specs.Process.{gatheredAt, latchesAt, depthAt, stackAt, stackPlaces, processWords}
+use Rattle.rules.specs.Evaluation.{Environment, value}
+use Rattle.rules.specs.Process.{latchPlaces, mostProcesses, gatheredAt, latchesAt, depthAt, stackAt, stackPlaces, processWords}
 use Rattle.rules.specs.Process.{depth, top, popped, replaced, pushed, advanced}
 use Rattle.rules.specs.Table.{Statement, nothing, assign, sequence, branch, loop, call, latch, collective}
 use Rattle.rules.specs.Table.{Collective, barrier, broadcast, exchange}
@@ -77,8 +77,8 @@ advanced-length table env words (branch a b c) = replaced-length words _
 advanced-length table env words (loop a b) = looped-length words (eqb (value table env a) 0) b
 advanced-length table env words (call p) = replaced-length words _
 advanced-length table env words (latch a b) =
-    popped-length (cond (ltb (value table env a) doors) (set words (latchesAt + value table env a) (value table env b)) words)
-    ∙ latched-length words (ltb (value table env a) doors) (latchesAt + value table env a) (value table env b)
+    popped-length (cond (ltb (value table env a) latchPlaces) (set words (latchesAt + value table env a) (value table env b)) words)
+    ∙ latched-length words (ltb (value table env a) latchPlaces) (latchesAt + value table env a) (value table env b)
 advanced-length table env words (collective k) = refl
 
 -- the words below the depth
@@ -108,7 +108,7 @@ set-depth words a v h = getD-set-other words a depthAt v 0 (omega arith)
 pub set-entry : (words : List ℕ) (a v i : ℕ) → a < depthAt → entry (set words a v) i ≡ entry words i
 set-entry words a v i h = getD-set-other words a (stackAt + i) v 0 (omega arith)
 
-pub gathered-depth : (roll : List ℕ) (count : ℕ) (words : List ℕ) → count ≤ 16
+pub gathered-depth : (roll : List ℕ) (count : ℕ) (words : List ℕ) → count ≤ mostProcesses
     → depth (gatheredFrom roll count words) ≡ depth words
 unfolding gatheredFrom
 gathered-depth roll zero words h = refl
@@ -116,7 +116,7 @@ gathered-depth roll (suc n) words h =
     set-depth (gatheredFrom roll n words) (gatheredAt + n) (arrivalValue roll n) (omega arith)
     ∙ gathered-depth roll n words (omega arith)
 
-pub gathered-entry : (roll : List ℕ) (count : ℕ) (words : List ℕ) (i : ℕ) → count ≤ 16
+pub gathered-entry : (roll : List ℕ) (count : ℕ) (words : List ℕ) (i : ℕ) → count ≤ mostProcesses
     → entry (gatheredFrom roll count words) i ≡ entry words i
 unfolding gatheredFrom
 gathered-entry roll zero words i h = refl
@@ -195,7 +195,7 @@ pub stack-set : (words : List ℕ) (a v : ℕ) → a < depthAt → stack (set wo
 stack-set words a v h =
     stack-kept (set words a v) words (set-depth words a v h) (λ i l. set-entry words a v i h)
 
-pub stack-gathered : (roll : List ℕ) (count : ℕ) (words : List ℕ) → count ≤ 16
+pub stack-gathered : (roll : List ℕ) (count : ℕ) (words : List ℕ) → count ≤ mostProcesses
     → stack (gatheredFrom roll count words) ≡ stack words
 stack-gathered roll count words h =
     stack-kept (gatheredFrom roll count words) words (gathered-depth roll count words h)
@@ -235,21 +235,21 @@ module _ (words : List ℕ) (sized : length words ≡ processWords) where
 abbrev pub StoresLow : Collective → Type 0
 StoresLow k = (a b c : ℕ) → k ≡ broadcast a b c → a < depthAt
 
-pub received-depth : (roll : List ℕ) (count : ℕ) (k : Collective) (p : ℕ) (words : List ℕ) → count ≤ 16 → StoresLow k
+pub received-depth : (roll : List ℕ) (count : ℕ) (k : Collective) (p : ℕ) (words : List ℕ) → count ≤ mostProcesses → StoresLow k
     → depth (received roll count k p words) ≡ depth words
 unfolding received
 received-depth roll count barrier p words h low = refl
 received-depth roll count (broadcast a b c) p words h low = set-depth words a _ (low a b c refl)
 received-depth roll count (exchange a) p words h low = gathered-depth roll count words h
 
-pub received-entry : (roll : List ℕ) (count : ℕ) (k : Collective) (p : ℕ) (words : List ℕ) (i : ℕ) → count ≤ 16 → StoresLow k
+pub received-entry : (roll : List ℕ) (count : ℕ) (k : Collective) (p : ℕ) (words : List ℕ) (i : ℕ) → count ≤ mostProcesses → StoresLow k
     → entry (received roll count k p words) i ≡ entry words i
 unfolding received
 received-entry roll count barrier p words i h low = refl
 received-entry roll count (broadcast a b c) p words i h low = set-entry words a _ i (low a b c refl)
 received-entry roll count (exchange a) p words i h low = gathered-entry roll count words i h
 
-pub stack-received : (roll : List ℕ) (count : ℕ) (k : Collective) (p : ℕ) (words : List ℕ) → count ≤ 16 → StoresLow k
+pub stack-received : (roll : List ℕ) (count : ℕ) (k : Collective) (p : ℕ) (words : List ℕ) → count ≤ mostProcesses → StoresLow k
     → stack (received roll count k p words) ≡ stack words
 stack-received roll count k p words h low =
     stack-kept (received roll count k p words) words (received-depth roll count k p words h low)
@@ -265,7 +265,7 @@ gathered-other roll (suc n) words j h =
     getD-set-other (gatheredFrom roll n words) (gatheredAt + n) j (arrivalValue roll n) 0 (h n (omega arith))
     ∙ gathered-other roll n words j (λ i l. h i (omega arith))
 
-pub gathered-at : (roll : List ℕ) (count : ℕ) (words : List ℕ) (i : ℕ) → length words ≡ processWords → count ≤ 16 → i < count
+pub gathered-at : (roll : List ℕ) (count : ℕ) (words : List ℕ) (i : ℕ) → length words ≡ processWords → count ≤ mostProcesses → i < count
     → getD (gatheredFrom roll count words) (gatheredAt + i) 0 ≡ arrivalValue roll i
 unfolding gatheredFrom
 gathered-at roll zero words i sized h l = absurd (omega arith)

@@ -10,9 +10,9 @@ use lib.Dec.{ltb, eqb}
 use lib.ListN.{length, set, length-set}
 use borrow.Author.Tests.{lt-ltb, ltb-true}
 use Rattle.rules.specs.Acceptance.{ruleOf, bodyFlagged}
-use Rattle.rules.specs.Evaluation.{Environment, value, doors}
+use Rattle.rules.specs.Evaluation.{Environment, value}
 use Rattle.rules.specs.Judgement.{single, effect, effectOf}
-use Rattle.rules.specs.Process.{environment, latchesAt, depthAt, stackPlaces, processWords}
+use Rattle.rules.specs.Process.{variablePlaces, latchPlaces, mostProcesses, environment, latchesAt, depthAt, stackPlaces, processWords}
 use Rattle.rules.specs.Process.{depth, top, popped, replaced, pushed, advanced, needsPlace}
 use Rattle.rules.specs.Table.{variables, flagged, body, effectFlag, procedures, statementAt}
 use Rattle.rules.specs.Table.{Statement, nothing, assign, sequence, branch, loop, call, latch, collective}
@@ -74,7 +74,7 @@ unfolding bodyFlagged
 unflagged-body table judged p l f =
     not-or-false (effect table (body table p)) (effectFlag table p) (judged .body-flagged p l) f
 
-module _ (table : List ℕ) (formed : Formed table) (judged : Judged table) (words : List ℕ) (own count : ℕ) (few : count ≤ 16)
+module _ (table : List ℕ) (formed : Formed table) (judged : Judged table) (words : List ℕ) (own count : ℕ) (few : count ≤ mostProcesses)
     (sized : length words ≡ processWords) (some : 0 < depth words) (most : depth words ≤ stackPlaces) where
   -- the entries below the top
   abbrev rest : List ℕ
@@ -124,15 +124,15 @@ module _ (table : List ℕ) (formed : Formed table) (judged : Judged table) (wor
       ∙ ap (λ s. adding table a (loud table s)) (stack-replaced words sized b some most))
 
   latch-view : (a v : ℕ)
-      → viewOf table (popped (cond (ltb a doors) (set words (latchesAt + a) v) words))
+      → viewOf table (popped (cond (ltb a latchPlaces) (set words (latchesAt + a) v) words))
       ≡ withPending (viewOf table words) (loud table rest)
   latch-view a v =
       ⊎-elim
-      (λ (e : ltb a doors ≡ true).
-      let l : a < doors = ltb-true a doors e in
+      (λ (e : ltb a latchPlaces ≡ true).
+      let l : a < latchPlaces = ltb-true a latchPlaces e in
       simp e (popped-view (latchesAt + a) v (omega arith) (set-high-shown table formed words (latchesAt + a) v (omega arith))))
-      (λ (e : ltb a doors ≡ false). simp e plain-popped-view)
-      (bool-cases (ltb a doors))
+      (λ (e : ltb a latchPlaces ≡ false). simp e plain-popped-view)
+      (bool-cases (ltb a latchPlaces))
 
   -- a statement without effect
   quiet-view : (s : Statement) → statementFits table (top words) s ≡ true → effect table (top words) ≡ false
@@ -141,7 +141,7 @@ module _ (table : List ℕ) (formed : Formed table) (judged : Judged table) (wor
   unfolding statementFits effectOf needsPlace advanced
   quiet-view nothing h q e room = plain-popped-view
   quiet-view (assign a b) h q e room =
-      let l : a < 32 =
+      let l : a < variablePlaces =
       omega (arith, ltb-true a (variables table) (both-left (ltb a (variables table)) (expressionPart table (top words) b) h), formed .variables-high) in
       popped-view a (value table env b) (omega arith) (set-local-shown table formed words a (value table env b) (simp e) l)
   quiet-view (sequence a b) h q e room =

@@ -12,9 +12,10 @@ use Rattle.rules.specs.declared.TeamStatus.the-variants.{Going, Done, De
 use Rattle.rules.specs.declared.Verdict.{Verdict}
 use Rattle.rules.specs.declared.Verdict.the-variants.{Accepted}
 use Rattle.rules.specs.Acceptance
-use Rattle.rules.specs.Acceptance.{checked}
+use Rattle.rules.specs.Acceptance.{scratchWords, checked}
 use Rattle.rules.specs.Answers.{refused}
 use Rattle.rules.specs.Arrivals
+use Rattle.rules.specs.Arrivals.{arrivalSize}
 use Rattle.rules.specs.Below
 use Rattle.rules.specs.Choice
 use Rattle.rules.specs.Collective
@@ -22,7 +23,7 @@ use Rattle.rules.specs.Evaluation
 use Rattle.rules.specs.Evaluation.{Environment, value}
 use Rattle.rules.specs.Judgement
 use Rattle.rules.specs.Process
-use Rattle.rules.specs.Process.{processAt}
+use Rattle.rules.specs.Process.{processWords, processAt}
 use Rattle.rules.specs.Run
 use Rattle.rules.specs.Run.{Team, answers, afterTurns, startTeam}
 use Rattle.rules.specs.Start
@@ -37,12 +38,12 @@ bytes (w ∷ words) = w / 2 ^ 24 ∷ (w / 2 ^ 16 % 256) ∷ (w / 2 ^ 8 % 256) �
 
 -- the checker's answer on a table's words, with scratch enough
 verdict : List ℕ → Verdict
-verdict words = checked (bytes words) (replicate 256 0)
+verdict words = checked (bytes words) (replicate scratchWords 0)
 
 -- the team after a start of `count` processes on zeroed words, and the answers to a list of turns
 startOn : List ℕ → ℕ → List ℕ → Team
 startOn words count start =
-    startTeam (bytes words) count start (replicate (329 * count) 0) (replicate (4 * count) 0)
+    startTeam (bytes words) count start (replicate (processWords * count) 0) (replicate (arrivalSize * count) 0)
 
 run : List ℕ → ℕ → List ℕ → List ℕ → List Stepped
 run words count start turns = answers (bytes words) (startOn words count start) turns

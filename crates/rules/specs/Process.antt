@@ -8,33 +8,42 @@ use Rattle.rules.specs.Evaluation.{Environment, value, doors}
 use Rattle.rules.specs.Table.{body}
 use Rattle.rules.specs.Table.{Statement, nothing, assign, sequence, branch, loop, call, latch, collective}
 
--- "In lent words that is 329: 32, 16, 12, 12, depth, 256 stack places, first entry lowest." Variables stand at 0.
+-- "In lent words that is 329: 32, 16, 12, 12, depth, 256 stack places, first entry lowest." Variables stand at 0. The code's
+-- constants are held to these names in src/layout.rt.
 abbrev pub variablePlaces : ℕ
 variablePlaces = 32
 
 abbrev pub gatheredPlaces : ℕ
 gatheredPlaces = 16
 
-abbrev pub gatheredAt : ℕ
-gatheredAt = 32
-
-abbrev pub doorsAt : ℕ
-doorsAt = 48
-
-abbrev pub latchesAt : ℕ
-latchesAt = 60
-
-abbrev pub depthAt : ℕ
-depthAt = 72
-
-abbrev pub stackAt : ℕ
-stackAt = 73
+abbrev pub latchPlaces : ℕ
+latchPlaces = 12
 
 abbrev pub stackPlaces : ℕ
 stackPlaces = 256
 
+-- each part stands behind the one before
+abbrev pub gatheredAt : ℕ
+gatheredAt = variablePlaces
+
+abbrev pub doorsAt : ℕ
+doorsAt = gatheredAt + gatheredPlaces
+
+abbrev pub latchesAt : ℕ
+latchesAt = doorsAt + doors
+
+abbrev pub depthAt : ℕ
+depthAt = latchesAt + latchPlaces
+
+abbrev pub stackAt : ℕ
+stackAt = depthAt + 1
+
 abbrev pub processWords : ℕ
-processWords = 329
+processWords = stackAt + stackPlaces
+
+-- "1 to 16 banks"
+abbrev pub mostProcesses : ℕ
+mostProcesses = 16
 
 -- the words of process p in the lent state, and the state with other words there
 unfoldable pub processAt : List ℕ → ℕ → List ℕ
@@ -93,7 +102,7 @@ advanced table env words (loop a b) = cond (eqb (value table env a) 0) (popped w
 advanced table env words (call p) = replaced words (body table p)
 advanced table env words (latch a b) =
     popped
-    (cond (ltb (value table env a) doors) (set words (latchesAt + value table env a) (value table env b)) words)
+    (cond (ltb (value table env a) latchPlaces) (set words (latchesAt + value table env a) (value table env b)) words)
 advanced table env words (collective k) = words
 
 -- 24's "if one is needed": kind 18, and kind 20 with a condition that is not zero

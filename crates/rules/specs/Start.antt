@@ -9,13 +9,13 @@ use Rattle.rules.specs.declared.Verdict.the-variants.{Accepted, Refused}
 use Rattle.rules.specs.Answers.{_then_, ask}
 use Rattle.rules.specs.Arrivals.{arrivalSize, runningRecord, eachArrival}
 use Rattle.rules.specs.Evaluation.{doors}
-use Rattle.rules.specs.Process.{variablePlaces, gatheredPlaces, latchesAt, stackPlaces, processWords, eachProcess}
+use Rattle.rules.specs.Process.{variablePlaces, gatheredPlaces, latchPlaces, stackPlaces, latchesAt, processWords, mostProcesses, eachProcess}
 use Rattle.rules.specs.Table.{variables, mainBody}
 use Rattle.rules.specs.WellFormed.{wellFormed}
 
 -- 18: "1 to 16 banks?"
 abbrev pub question18 : ℕ → Verdict
-question18 count = ask 18 (leb 1 count && leb count 16)
+question18 count = ask 18 (leb 1 count && leb count mostProcesses)
 
 -- the start words of one process: "V variables then 12 doors a bank"
 unfoldable pub startSize : List ℕ → ℕ
@@ -31,7 +31,7 @@ question20 count state = ask 20 (eqb (length state) (processWords * count))
 
 -- 21: "Roll one record a bank, 1 to 16?"
 abbrev pub question21 : ℕ → List ℕ → Verdict
-question21 count roll = ask 21 (eqb (length roll) (arrivalSize * count) && leb 1 count && leb count 16)
+question21 count roll = ask 21 (eqb (length roll) (arrivalSize * count) && leb 1 count && leb count mostProcesses)
 
 -- the questions of a start, in order
 unfoldable pub startVerdict : List ℕ → ℕ → List ℕ → List ℕ → List ℕ → Verdict
@@ -53,7 +53,7 @@ startProcess table words =
     ++ (replicate (variablePlaces - variables table) 0
     ++ (replicate gatheredPlaces 0
     ++ (drop (variables table) words
-    ++ (replicate doors 0
+    ++ (replicate latchPlaces 0
     ++ (1 ∷ mainBody table ∷ replicate (stackPlaces - 1) 0)))))
 
 unfoldable pub startState : List ℕ → ℕ → List ℕ → List ℕ → List ℕ
@@ -83,5 +83,5 @@ started table count words state roll =
 unfoldable pub latchesOf : List ℕ → ℕ → List ℕ
 latchesOf state p =
     cond (eqb (length state % processWords) 0 && ltb p (length state / processWords))
-    (take doors (drop (processWords * p + latchesAt) state))
+    (take latchPlaces (drop (processWords * p + latchesAt) state))
     []

@@ -49,6 +49,16 @@ unpacked word = record { kind = word / 2 ^ 27; a = word / 2 ^ 18 % 512; b = word
 unfoldable pub nodeAt : List ℕ → ℕ → Node
 nodeAt table n = unpacked (wordAt table (2 + procedures table + n))
 
+-- the bounds of kinds: expressions from 0 on, statements from the first to the last
+abbrev pub lastExpression : ℕ
+lastExpression = 12
+
+abbrev pub firstStatement : ℕ
+firstStatement = 16
+
+abbrev pub lastStatement : ℕ
+lastStatement = 25
+
 -- kinds 6 to 12
 pub data Operator : Type 0 where
   sum difference product quotient less equal both : Operator
@@ -116,7 +126,7 @@ statementOf m =
     ∷ collective (broadcast (m .a) (m .b) (m .c))
     ∷ collective (exchange (m .a))
     ∷ [])
-    (m .kind - 16)
+    (m .kind - firstStatement)
     nothing
 
 unfoldable pub expressionAt : List ℕ → ℕ → Expression

@@ -10,6 +10,7 @@ use Rattle.rules.specs.Answers.{_then_, ask, askEach}
 use Rattle.rules.specs.Below.{atNode}
 use Rattle.rules.specs.Choice.{allBelow}
 use Rattle.rules.specs.Table.{wordAt, edition, variables, procedures, nodes, procedureWord, body, nodeAt}
+use Rattle.rules.specs.Table.{lastExpression, firstStatement, lastStatement}
 use Rattle.rules.specs.Table.{Expression, constant, variable, ownNumber, processCount, door, slot, operation}
 use Rattle.rules.specs.Table.{Statement, nothing, assign, sequence, branch, loop, call, latch, collective}
 use Rattle.rules.specs.Table.{Collective, barrier, broadcast, exchange}
@@ -52,10 +53,10 @@ question6 table = askEach 6 (procedures table) (procedureFits table)
 
 -- 7: "Is the kind known?" Kinds 0 to 12 are expressions, 16 to 25 statements.
 unfoldable pub isExpression : List ℕ → ℕ → Bool
-isExpression table n = leb (nodeAt table n .kind) 12
+isExpression table n = leb (nodeAt table n .kind) lastExpression
 
 unfoldable pub isStatement : List ℕ → ℕ → Bool
-isStatement table n = leb 16 (nodeAt table n .kind) && leb (nodeAt table n .kind) 25
+isStatement table n = leb firstStatement (nodeAt table n .kind) && leb (nodeAt table n .kind) lastStatement
 
 unfoldable pub kindKnown : List ℕ → ℕ → Bool
 kindKnown table n = isExpression table n || isStatement table n

@@ -1,0 +1,87 @@
+// The numbers of the layout, each once in the code. The definitions have them in specs/Process.antt (places and offsets),
+// Arrivals.antt, Acceptance.antt and Table.antt (kinds); `sizes`, `offsets` and `kinds` hold the two to each other.
+ghost use mathlib.Core.List.{_∷_, []};
+ghost use mathlib.Core.Path.{_≡_};
+ghost use Rattle.rules.specs.Acceptance.{scratchWords};
+ghost use Rattle.rules.specs.Arrivals.{arrivalSize};
+ghost use Rattle.rules.specs.Evaluation.{doors};
+ghost use Rattle.rules.specs.Process.{variablePlaces, gatheredPlaces, latchPlaces, stackPlaces, mostProcesses};
+ghost use Rattle.rules.specs.Process.{gatheredAt, doorsAt, latchesAt, depthAt, stackAt, processWords};
+ghost use Rattle.rules.specs.Table.{lastExpression, firstStatement, lastStatement};
+
+// The parts of a process's words, in their order; between latches and stack stands the depth.
+pub const VARIABLE_PLACES: usize = 32;
+
+pub const GATHERED_PLACES: usize = 16;
+
+pub const DOOR_PLACES: usize = 12;
+
+pub const LATCH_PLACES: usize = 12;
+
+pub const STACK_PLACES: usize = 256;
+
+pub const GATHERED_AT: usize = VARIABLE_PLACES;
+
+pub const DOORS_AT: usize = GATHERED_AT + GATHERED_PLACES;
+
+pub const LATCHES_AT: usize = DOORS_AT + DOOR_PLACES;
+
+pub const DEPTH_AT: usize = LATCHES_AT + LATCH_PLACES;
+
+pub const STACK_AT: usize = DEPTH_AT + 1;
+
+pub const PROCESS_WORDS: usize = STACK_AT + STACK_PLACES;
+
+// A record of the arrivals, the checker's scratch, and the processes of a team.
+pub const ARRIVAL_WORDS: usize = 4;
+
+pub const SCRATCH_WORDS: usize = 256;
+
+pub const MOST_PROCESSES: usize = 16;
+
+// What the largest team takes: its state and its start words.
+pub const STATE_WORDS: usize = PROCESS_WORDS * MOST_PROCESSES;
+
+pub const START_WORDS: usize = (VARIABLE_PLACES + DOOR_PLACES) * MOST_PROCESSES;
+
+// The bounds of kinds.
+pub const LAST_EXPRESSION: u32 = 12;
+
+pub const FIRST_STATEMENT: u32 = 16;
+
+pub const LAST_STATEMENT: u32 = 25;
+
+fn sizes() -> [usize; 8]
+    ensures { λ r. ⌜ r ≡ variablePlaces ∷ gatheredPlaces ∷ doors ∷ latchPlaces ∷ stackPlaces ∷ arrivalSize ∷ scratchWords
+        ∷ mostProcesses ∷ [] ⌝ }
+{
+    [
+        VARIABLE_PLACES,
+        GATHERED_PLACES,
+        DOOR_PLACES,
+        LATCH_PLACES,
+        STACK_PLACES,
+        ARRIVAL_WORDS,
+        SCRATCH_WORDS,
+        MOST_PROCESSES,
+    ]
+}
+
+fn offsets() -> [usize; 6]
+    ensures { λ r. ⌜ r ≡ gatheredAt ∷ doorsAt ∷ latchesAt ∷ depthAt ∷ stackAt ∷ processWords ∷ [] ⌝ }
+{
+    [
+        GATHERED_AT,
+        DOORS_AT,
+        LATCHES_AT,
+        DEPTH_AT,
+        STACK_AT,
+        PROCESS_WORDS,
+    ]
+}
+
+fn kinds() -> [u32; 3]
+    ensures { λ r. ⌜ r ≡ lastExpression ∷ firstStatement ∷ lastStatement ∷ [] ⌝ }
+{
+    [LAST_EXPRESSION, FIRST_STATEMENT, LAST_STATEMENT]
+}
