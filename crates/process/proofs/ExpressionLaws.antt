@@ -7,7 +7,7 @@ use native.Mathlib.Omega.{arith}
 use borrow.Author.Tests.{leb-true}
 use Rattle.rules.specs.declared.Node.{Node}
 use Rattle.rules.specs.Evaluation.{Environment, valueOf, value}
-use Rattle.rules.specs.Table.{nodeAt, unpacked, expressionOf, Expression, operation}
+use Rattle.rules.specs.Table.{lastExpression, nodeAt, unpacked, expressionOf, Expression, operation}
 use Rattle.rules.specs.WellFormed.{isExpression}
 use Rattle.rules.proofs.Formed.{Formed}
 use Rattle.rules.proofs.KindLaws.{operation-of, expression-here}
@@ -37,9 +37,9 @@ module _ (table : List ℕ) (formed : Formed table) (n : ℕ) (m : Node) (here :
   value-here env e t =
       value-at table formed env n ∙ ap (λ x. valueOf env (value table env) x) (expression-here table formed n m here t)
 
-  pub kind-low : isExpression table n ≡ true → m .kind ≤ 12
+  pub kind-low : isExpression table n ≡ true → m .kind ≤ lastExpression
   unfolding isExpression
-  kind-low e = rw (← here) at (leb-true (nodeAt table n .kind) 12 e)
+  kind-low e = rw (← here) at (leb-true (nodeAt table n .kind) lastExpression e)
 
   pub packed-here : Packed m
   packed-here = rw here (packed table n)

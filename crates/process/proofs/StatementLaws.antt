@@ -9,7 +9,8 @@ use lib.Dec.{leb}
 use lib.ListN.{length}
 use borrow.Author.Tests.{leb-true}
 use Rattle.rules.specs.declared.Node.{Node}
-use Rattle.rules.specs.Process.{environment, depth, top, needsPlace}
+use Rattle.rules.specs.Process.{variablePlaces, stackPlaces, environment, depth, top, needsPlace}
+use Rattle.rules.specs.Table.{firstStatement, lastStatement}
 use Rattle.rules.specs.Table.{procedures, nodes, body, nodeAt, unpacked, statementAt, statementOf, Statement, loop}
 use Rattle.rules.specs.WellFormed.{isStatement, expressionPart}
 use Rattle.rules.proofs.AnswerLaws.{both-left, both-right}
@@ -35,17 +36,17 @@ statement-below table formed n e =
 
 -- the kind of a statement node m that the table has at n
 module _ (table : List ℕ) (n : ℕ) (m : Node) (here : m ≡ nodeAt table n) where
-  pub kind-from : isStatement table n ≡ true → 16 ≤ m .kind
+  pub kind-from : isStatement table n ≡ true → firstStatement ≤ m .kind
   unfolding isStatement
   kind-from e =
       rw (← here) at
-      (leb-true 16 (nodeAt table n .kind) (both-left (leb 16 (nodeAt table n .kind)) (leb (nodeAt table n .kind) 25) e))
+      (leb-true firstStatement (nodeAt table n .kind) (both-left (leb firstStatement (nodeAt table n .kind)) (leb (nodeAt table n .kind) lastStatement) e))
 
-  pub kind-to : isStatement table n ≡ true → m .kind ≤ 25
+  pub kind-to : isStatement table n ≡ true → m .kind ≤ lastStatement
   unfolding isStatement
   kind-to e =
       rw (← here) at
-      (leb-true (nodeAt table n .kind) 25 (both-right (leb 16 (nodeAt table n .kind)) (leb (nodeAt table n .kind) 25) e))
+      (leb-true (nodeAt table n .kind) lastStatement (both-right (leb firstStatement (nodeAt table n .kind)) (leb (nodeAt table n .kind) lastStatement) e))
 
 -- the top statement of a process
 module _ {table : List ℕ} {header : Header} {words : List ℕ} {count : ℕ} {m : Node}
@@ -59,10 +60,10 @@ module _ {table : List ℕ} {header : Header} {words : List ℕ} {count : ℕ} {
   pub top-statement : {s : Statement} → statementOf m ≡ s → statementAt table (top words) ≡ s
   top-statement e = statement-here table top-formed (top words) m (t .here) e
 
-  pub top-from : 16 ≤ m .kind
+  pub top-from : firstStatement ≤ m .kind
   top-from = kind-from table (top words) m (t .here) (t .statement)
 
-  pub top-to : m .kind ≤ 25
+  pub top-to : m .kind ≤ lastStatement
   top-to = kind-to table (top words) m (t .here) (t .statement)
 
   -- a part that question 9 asks about
@@ -80,12 +81,12 @@ module _ {table : List ℕ} {header : Header} {words : List ℕ} {own count : �
   shape : Formed table
   shape = top-formed (t .topped)
 
-  pub turn-assign : m .kind ≡ 17 → Given table header words count × Stacked words × (m .a < 32) × Part table (m .b)
+  pub turn-assign : m .kind ≡ 17 → Given table header words count × Stacked words × (m .a < variablePlaces) × Part table (m .b)
   turn-assign e =
       let f = assign-fields table shape (top words) m (t .topped .here) e in
       (t .topped .given, t .topped .stacked, omega (arith, f .0, shape .variables-high), top-part (t .topped) (f .1))
 
-  pub turn-sequence : m .kind ≡ 18 → Stacked words × (depth words < 256)
+  pub turn-sequence : m .kind ≡ 18 → Stacked words × (depth words < stackPlaces)
   unfolding needsPlace
   turn-sequence e = (t .topped .stacked, t .place (rw (top-statement (t .topped) (sequence-of m e))))
 
@@ -99,7 +100,7 @@ module _ {table : List ℕ} {header : Header} {words : List ℕ} {own count : �
 
   pub turn-repeat : m .kind ≡ 20
       → needsPlace table (environment words own count) (loop (m .a) (m .b)) ≡ true
-      → depth words < 256
+      → depth words < stackPlaces
   turn-repeat e n = t .place (rw (top-statement (t .topped) (loop-of m e)) n)
 
   called : m .kind ≡ 21 → m .a < procedures table

@@ -9,7 +9,7 @@ use Rattle.rules.specs.declared.Node.{Node}
 use Rattle.rules.specs.Table.{nodes, nodeAt, statementAt}
 use Rattle.rules.specs.Table.{Operator, sum, difference, product, quotient, less, equal, both}
 use Rattle.rules.specs.WellFormed.{wellFormed, isExpression, isStatement}
-use Rattle.rules.specs.Process.{processWords, stackPlaces, environment, depth, top, needsPlace}
+use Rattle.rules.specs.Process.{stackPlaces, processWords, mostProcesses, environment, depth, top, needsPlace}
 use Rattle.rules.specs.declared.Verdict.the-variants.{Accepted}
 use Rattle.table.specs.Header.{headerOf}
 use Rattle.table.specs.declared.Header.{Header}
@@ -23,7 +23,7 @@ pub record Read (table : List ℕ) (header : Header) : Type 0 where
 pub record Given (table : List ℕ) (header : Header) (words : List ℕ) (count : ℕ) : Type 0 where
   pub read : Read table header
   pub sized : length words ≡ processWords
-  pub few : count ≤ 16
+  pub few : count ≤ mostProcesses
 
 -- kinds 6 to 12, in this order
 unfoldable pub operatorOf : ℕ → Operator

@@ -5,11 +5,14 @@ ghost use Prim.Native.Nat.{ℕ, _+_, _*_, _/_, _%_, _<_, _≤_};
 ghost use lib.Dec.{ltb};
 ghost use lib.ListN.{length, getD};
 ghost use Rattle.rules.specs.Evaluation.{applied, valueOf, value, doors};
-ghost use Rattle.rules.specs.Process.{environment, gatheredAt, doorsAt};
+ghost use Rattle.rules.specs.Process.{mostProcesses, gatheredAt, doorsAt, processWords, environment};
 ghost use Rattle.rules.specs.Table.{Operator, nodes, expressionOf};
 ghost use Rattle.rules.specs.WellFormed.{isExpression};
 ghost use Rattle.process.specs.Given.{Given, operatorOf};
 use rules::Node;
+use rules::layout::DOOR_PLACES;
+use rules::layout::DOORS_AT;
+use rules::layout::GATHERED_AT;
 use std::num::wrapping_add_u32;
 use table::Header;
 use table::words::node_at;
@@ -63,8 +66,8 @@ fn apply(kind: u32, x: u32, y: u32) -> u32
 
 // Kinds 0 to 3, which have no parts.
 fn leaf(node: Node, words: &[u32], own: u32, count: u32) -> u32
-    requires { ⌜ (node .kind < 4) × (node .b < 512) × (node .c < 512) × (length (now words) ≡ 329) ⌝ }
-    requires { ⌜ (node .kind ≡ 1 → node .a < 329) ⌝ }
+    requires { ⌜ (node .kind < 4) × (node .b < 512) × (node .c < 512) × (length (now words) ≡ processWords) ⌝ }
+    requires { ⌜ (node .kind ≡ 1 → node .a < processWords) ⌝ }
     ensures { λ r. ⌜ ((part : ℕ → ℕ)
         → r ≡ valueOf (environment (now (words .entry)) own count) part (expressionOf node)) ⌝ }
 {
@@ -81,11 +84,12 @@ fn leaf(node: Node, words: &[u32], own: u32, count: u32) -> u32
 
 // "own door word, door A; from 12 on the value is 0"
 fn door(words: &[u32], x: u32) -> u32
-    requires { ⌜ length (now words) ≡ 329 ⌝ }
+    requires { ⌜ length (now words) ≡ processWords ⌝ }
     ensures { λ r. ⌜ r ≡ cond (ltb x doors) (getD (now (words .entry)) (doorsAt + x) 0) 0 ⌝ }
 {
-    if x < 12 {
-        let at = 48 + x as usize;
+    let place = x as usize;
+    if place < DOOR_PLACES {
+        let at = DOORS_AT + place;
         words[at]
     } else {
         0
@@ -94,11 +98,11 @@ fn door(words: &[u32], x: u32) -> u32
 
 // "roster slot A; from the number of banks on the value is 0"
 fn slot(words: &[u32], count: u32, x: u32) -> u32
-    requires { ⌜ (length (now words) ≡ 329) × (count ≤ 16) ⌝ }
+    requires { ⌜ (length (now words) ≡ processWords) × (count ≤ mostProcesses) ⌝ }
     ensures { λ r. ⌜ r ≡ cond (ltb x count) (getD (now (words .entry)) (gatheredAt + x) 0) 0 ⌝ }
 {
     if x < count {
-        let at = 32 + x as usize;
+        let at = GATHERED_AT + x as usize;
         words[at]
     } else {
         0

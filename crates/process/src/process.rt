@@ -1,25 +1,27 @@
-// One process's 329 words: its stack, and the step of a statement that is no collective. Values are worked out before a word
+// One process's words: its stack, and the step of a statement that is no collective. Values are worked out before a word
 // is written.
 ghost use mathlib.Core.Bool.{true, cond};
 ghost use mathlib.Core.Path.{_≡_};
 ghost use Prim.Native.Nat.{_+_, _*_, _<_, _≤_};
 ghost use lib.Dec.{ltb};
 ghost use lib.ListN.{length, set};
-ghost use Rattle.rules.specs.Evaluation.{value, doors};
-ghost use Rattle.rules.specs.Process.{processAt, environment, depth, top, popped, replaced, pushed, advanced, needsPlace, latchesAt};
+ghost use Rattle.rules.specs.Evaluation.{value};
+ghost use Rattle.rules.specs.Process.{variablePlaces, latchPlaces, stackPlaces, latchesAt, processWords};
+ghost use Rattle.rules.specs.Process.{processAt, environment, depth, top, popped, replaced, pushed, advanced, needsPlace};
 ghost use Rattle.rules.specs.Table.{Statement, body, statementAt};
 ghost use Rattle.process.specs.Given.{Given, Stacked, Part, Turn};
 use crate::evaluation::evaluate;
 use rules::Node;
+use rules::layout::DEPTH_AT;
+use rules::layout::LATCH_PLACES;
+use rules::layout::LATCHES_AT;
+use rules::layout::PROCESS_WORDS;
+use rules::layout::STACK_AT;
 use table::Header;
 use table::words::body;
 
-const PROCESS_WORDS: usize = 329;
-
-const DEPTH_AT: usize = 72;
-
 pub fn process_at(state: &[u32], p: usize) -> &[u32]
-    requires { ⌜ 329 * p + 329 ≤ length (now state) ⌝ }
+    requires { ⌜ processWords * p + processWords ≤ length (now state) ⌝ }
     ensures { λ r. ⌜ now r ≡ processAt (now (state .entry)) p ⌝ }
 {
     let at = PROCESS_WORDS * p;
@@ -55,17 +57,17 @@ fn replace(words: &mut [u32], n: u32)
 }
 
 fn push(words: &mut [u32], n: u32)
-    requires { ⌜ (length (now words) ≡ 329) × (depth (now words) < 256) ⌝ }
+    requires { ⌜ (length (now words) ≡ processWords) × (depth (now words) < stackPlaces) ⌝ }
     ensures { λ _. ⌜ now (words .exit) ≡ pushed (now (words .entry)) n ⌝ }
 {
     let depth = words[DEPTH_AT];
-    let at = DEPTH_AT + 1 + depth as usize;
+    let at = STACK_AT + depth as usize;
     words[at] = n;
     words[DEPTH_AT] = depth + 1;
 }
 
 fn assign(table: &[u8], header: Header, words: &mut [u32], own: u32, count: u32, a: usize, b: usize)
-    requires { ⌜ Given (now table) header (now words) count × Stacked (now words) × (a < 32) × Part (now table) b ⌝ }
+    requires { ⌜ Given (now table) header (now words) count × Stacked (now words) × (a < variablePlaces) × Part (now table) b ⌝ }
     ensures { λ _. ⌜ now (words .exit)
         ≡ advanced (now (table .entry)) (environment (now (words .entry)) own count) (now (words .entry))
         (Statement.assign a b) ⌝ }
@@ -76,7 +78,7 @@ fn assign(table: &[u8], header: Header, words: &mut [u32], own: u32, count: u32,
 }
 
 fn sequence(words: &mut [u32], a: u32, b: u32)
-    requires { ⌜ Stacked (now words) × (depth (now words) < 256) ⌝ }
+    requires { ⌜ Stacked (now words) × (depth (now words) < stackPlaces) ⌝ }
     ensures { λ _. ⌜ now (words .exit) ≡ pushed (replaced (now (words .entry)) b) a ⌝ }
 {
     replace(words, b);
@@ -100,7 +102,7 @@ fn branch(table: &[u8], header: Header, words: &mut [u32], own: u32, count: u32,
 fn repeat(table: &[u8], header: Header, words: &mut [u32], own: u32, count: u32, node: Node)
     requires { ⌜ Given (now table) header (now words) count × Stacked (now words) × Part (now table) (node .a) ⌝ }
     requires { ⌜ (needsPlace (now table) (environment (now words) own count) (Statement.loop (node .a) (node .b)) ≡ true
-        → depth (now words) < 256) ⌝ }
+        → depth (now words) < stackPlaces) ⌝ }
     ensures { λ _. ⌜ now (words .exit)
         ≡ advanced (now (table .entry)) (environment (now (words .entry)) own count) (now (words .entry))
         (Statement.loop (node .a) (node .b)) ⌝ }
@@ -124,12 +126,13 @@ fn call(table: &[u8], words: &mut [u32], p: usize)
 
 // "from 12 on nothing is changed"
 fn write_latch(words: &mut [u32], place: u32, value: u32)
-    requires { ⌜ length (now words) ≡ 329 ⌝ }
+    requires { ⌜ length (now words) ≡ processWords ⌝ }
     ensures { λ _. ⌜ now (words .exit)
-        ≡ cond (ltb place doors) (set (now (words .entry)) (latchesAt + place) value) (now (words .entry)) ⌝ }
+        ≡ cond (ltb place latchPlaces) (set (now (words .entry)) (latchesAt + place) value) (now (words .entry)) ⌝ }
 {
-    if place < 12 {
-        let at = 60 + place as usize;
+    let place = place as usize;
+    if place < LATCH_PLACES {
+        let at = LATCHES_AT + place;
         words[at] = value;
     }
 }

@@ -5,7 +5,7 @@ use native.Mathlib.Omega.{arith}
 use borrow.Author.Needs.{needs}
 use Rattle.rules.specs.Evaluation.{Environment, value, valueOf}
 use Rattle.rules.specs.Process.{environment}
-use Rattle.rules.specs.Table.{Expression, expressionOf, door, slot, operation}
+use Rattle.rules.specs.Table.{lastExpression, Expression, expressionOf, door, slot, operation}
 use mathlib.Core.List.{List}
 use Rattle.rules.specs.WellFormed.{expressionPart}
 use Rattle.rules.proofs.Formed.{Formed, formed}
@@ -71,7 +71,7 @@ env t c = environment (start t c .args .words .now) (start t c .args .own) (star
 shape : (t : ℕ) → (c : Read t) → Formed (table t c)
 shape t c = formed (table t c) (start t c .pre .1 .0 .read .well-formed)
 
-low : (t : ℕ) → (c : Read t) → c .node-at .result .kind ≤ 12
+low : (t : ℕ) → (c : Read t) → c .node-at .result .kind ≤ lastExpression
 low t c =
     kind-low (table t c) (shape t c) (start t c .args .n) (c .node-at .result) (c .node-at .ensures)
     (start t c .pre .1 .1 .1)

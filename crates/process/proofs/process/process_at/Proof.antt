@@ -1,8 +1,6 @@
 -- `process::process::process_at` meets its contract.
 use Rattle.rules.specs.Process.{processAt}
-use native.Mathlib.Omega.{arith}
-use Prim.Native.Nat.{_+_, _-_, _*_}
-use mathlib.Core.Path.{_≡_}
+use Rattle.process.proofs.LentLaws.{part-size}
 use borrow.Author.Needs.{needs}
 use Rattle.process.proofs.process.process_at.Statement.{statement}
 use Rattle.process.proofs.process.process_at.Tie as tie
@@ -27,9 +25,7 @@ part-result-end c = search needs
 
 returns : tie.Need-returns
 unfolding processAt
-returns c =
-    let size : 329 * c .before .args .p + 329 - 329 * c .before .args .p ≡ 329 = omega arith in
-    rw size
+returns c = rw (part-size (c .before .args .p))
 
 pub process-at-spec : {M : Type 1} → statement M
 process-at-spec =

@@ -9,16 +9,13 @@ use Rattle.process.proofs.process.push.Tie as tie
 slice-read-depth : tie.Need-slice-read-depth
 slice-read-depth c = search needs
 
-add-at : tie.Need-add-at
-add-at c = search needs
-
 cast-at : tie.Need-cast-at
 unfolding depth
 cast-at c = omega arith
 
-add-at-2 : tie.Need-add-at-2
+add-at : tie.Need-add-at
 unfolding depth
-add-at-2 c = omega arith
+add-at c = omega arith
 
 mul-words : tie.Need-mul-words
 unfolding depth
@@ -47,9 +44,8 @@ push-spec =
     tie.close
     (tie.spec
     slice-read-depth
-    add-at
     cast-at
-    add-at-2
+    add-at
     mul-words
     slice-write-words
     add-words
