@@ -9,8 +9,8 @@ use native.Mathlib.Omega.{arith}
 use lib.Dec.{eqb}
 use borrow.Author.Tests.{eqb-true}
 use Rattle.rules.specs.declared.Node.{Node}
-use Rattle.rules.specs.Process.{top}
-use Rattle.rules.specs.Table.{statementOf, collective, barrier, broadcast, exchange}
+use Rattle.rules.specs.Process.{variablePlaces, top}
+use Rattle.rules.specs.Table.{lastStatement, statementOf, collective, barrier, broadcast, exchange}
 use Rattle.rules.proofs.ChoiceLaws.{bool-cases}
 use Rattle.rules.proofs.KindLaws.{barrier-of, broadcast-of, exchange-of, broadcast-fields, exchange-field}
 use Rattle.rules.proofs.StackLaws.{StoresLow}
@@ -33,7 +33,7 @@ module _ (m : Node) where
   is-exchange e = rw e
 
   -- kinds 23 to 25 are the collectives
-  pub collective-of : 23 ≤ m .kind → m .kind ≤ 25 → statementOf m ≡ collective (collectiveOf m)
+  pub collective-of : 23 ≤ m .kind → m .kind ≤ lastStatement → statementOf m ≡ collective (collectiveOf m)
   collective-of h k =
       elim (decLt (m .kind) 24) [
         | yes l ↦ let e : m .kind ≡ 23 = omega arith in rw (is-barrier e) (barrier-of m e)
@@ -47,7 +47,7 @@ module _ (m : Node) where
 -- what a process whose top statement is a collective evaluates
 module _ {table : List ℕ} {header : Header} {words : List ℕ} {count : ℕ} {m : Node}
     (t : Topped table header words count m) where
-  pub broadcast-fits : m .kind ≡ 24 → (m .a < 32) × Part table (m .b) × Part table (m .c)
+  pub broadcast-fits : m .kind ≡ 24 → (m .a < variablePlaces) × Part table (m .b) × Part table (m .c)
   broadcast-fits e =
       let f = broadcast-fields table (top-formed t) (top words) m (t .here) e in
       (omega (arith, f .0, top-formed t .variables-high), top-part t (f .1), top-part t (f .2))
@@ -56,7 +56,7 @@ module _ {table : List ℕ} {header : Header} {words : List ℕ} {count : ℕ} {
   exchange-fits e = top-part t (exchange-field table (top-formed t) (top words) m (t .here) e)
 
 -- a collective stores below the stack
-pub stores-low : (m : Node) → (m .kind ≡ 24 → m .a < 32) → StoresLow (collectiveOf m)
+pub stores-low : (m : Node) → (m .kind ≡ 24 → m .a < variablePlaces) → StoresLow (collectiveOf m)
 unfolding collectiveOf
 stores-low m h a b c q =
     ⊎-elim

@@ -10,8 +10,8 @@ use Rattle.rules.specs.declared.Node.{Node}
 use Rattle.rules.specs.declared.Status.{Status}
 use Rattle.rules.specs.declared.Status.the-variants.{Running, Waiting, Ended}
 use Rattle.rules.specs.Arrivals.{arrivalSize, running, waiting, statusAt, arrivalNode, arrivalValue, arrivalSource}
-use Rattle.rules.specs.Process.{variablePlaces}
-use Rattle.rules.specs.Table.{Collective, barrier, broadcast, exchange}
+use Rattle.rules.specs.Process.{variablePlaces, mostProcesses}
+use Rattle.rules.specs.Table.{lastStatement, Collective, barrier, broadcast, exchange}
 
 -- kinds 23 to 25
 unfoldable pub collectiveOf : Node → Collective
@@ -35,7 +35,7 @@ arrivalAt roll p =
 pub record Meeting (roll : List ℕ) (count : ℕ) (node : Node) : Type 0 where
   pub rolled : length roll ≡ arrivalSize * count
   pub some : 1 ≤ count
-  pub few : count ≤ 16
+  pub few : count ≤ mostProcesses
   pub from : 23 ≤ node .kind
-  pub to : node .kind ≤ 25
+  pub to : node .kind ≤ lastStatement
   pub stored : node .kind ≡ 24 → node .a < variablePlaces

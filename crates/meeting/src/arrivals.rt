@@ -4,42 +4,43 @@ ghost use mathlib.Core.Path.{_≡_};
 ghost use Prim.Native.Nat.{_+_, _*_, _<_, _≤_};
 ghost use lib.Dec.{eqb};
 ghost use lib.ListN.{length};
-ghost use Rattle.rules.specs.Arrivals.{running, ended, statusNumber, statusAt, arrivalNode, arrivalValue, arrivalSource, withArrival, teamStatus, allAtOneNode};
+ghost use Rattle.rules.specs.Arrivals.{arrivalSize, running, ended, statusNumber, statusAt, arrivalNode, arrivalValue, arrivalSource, withArrival, teamStatus, allAtOneNode};
 ghost use Rattle.rules.specs.Choice.{allBelow};
 ghost use Rattle.meeting.specs.Meeting.{statusOf, arrivalAt};
 use rules::Arrival;
 use rules::Status;
 use rules::TeamStatus;
+use rules::layout::ARRIVAL_WORDS;
 
 pub fn status_at(roll: &[u32], p: usize) -> u32
-    requires { ⌜ 4 * p + 3 < length (now roll) ⌝ }
+    requires { ⌜ arrivalSize * p + 3 < length (now roll) ⌝ }
     ensures { λ r. ⌜ r ≡ statusAt (now (roll .entry)) p ⌝ }
 {
-    let at = 4 * p;
+    let at = ARRIVAL_WORDS * p;
     roll[at]
 }
 
 pub fn node_of(roll: &[u32], p: usize) -> u32
-    requires { ⌜ 4 * p + 3 < length (now roll) ⌝ }
+    requires { ⌜ arrivalSize * p + 3 < length (now roll) ⌝ }
     ensures { λ r. ⌜ r ≡ arrivalNode (now (roll .entry)) p ⌝ }
 {
-    let at = 4 * p + 1;
+    let at = ARRIVAL_WORDS * p + 1;
     roll[at]
 }
 
 pub fn value_of(roll: &[u32], p: usize) -> u32
-    requires { ⌜ 4 * p + 3 < length (now roll) ⌝ }
+    requires { ⌜ arrivalSize * p + 3 < length (now roll) ⌝ }
     ensures { λ r. ⌜ r ≡ arrivalValue (now (roll .entry)) p ⌝ }
 {
-    let at = 4 * p + 2;
+    let at = ARRIVAL_WORDS * p + 2;
     roll[at]
 }
 
 pub fn source_of(roll: &[u32], p: usize) -> u32
-    requires { ⌜ 4 * p + 3 < length (now roll) ⌝ }
+    requires { ⌜ arrivalSize * p + 3 < length (now roll) ⌝ }
     ensures { λ r. ⌜ r ≡ arrivalSource (now (roll .entry)) p ⌝ }
 {
-    let at = 4 * p + 3;
+    let at = ARRIVAL_WORDS * p + 3;
     roll[at]
 }
 
@@ -67,7 +68,7 @@ fn status_number(status: Status) -> u32
 }
 
 pub fn read(roll: &[u32], p: usize) -> Arrival
-    requires { ⌜ 4 * p + 3 < length (now roll) ⌝ }
+    requires { ⌜ arrivalSize * p + 3 < length (now roll) ⌝ }
     ensures { λ r. ⌜ r ≡ arrivalAt (now (roll .entry)) p ⌝ }
 {
     let status = status_of(status_at(roll, p));
@@ -80,10 +81,10 @@ pub fn read(roll: &[u32], p: usize) -> Arrival
 }
 
 pub fn write(roll: &mut [u32], p: usize, arrival: Arrival)
-    requires { ⌜ 4 * p + 3 < length (now roll) ⌝ }
+    requires { ⌜ arrivalSize * p + 3 < length (now roll) ⌝ }
     ensures { λ _. ⌜ now (roll .exit) ≡ withArrival (now (roll .entry)) p arrival ⌝ }
 {
-    let at = 4 * p;
+    let at = ARRIVAL_WORDS * p;
     let status = arrival.status;
     roll[at] = status_number(status);
     roll[at + 1] = arrival.node;
@@ -92,7 +93,7 @@ pub fn write(roll: &mut [u32], p: usize, arrival: Arrival)
 }
 
 fn none_runs(roll: &[u32], count: usize) -> bool
-    requires { ⌜ length (now roll) ≡ 4 * count ⌝ }
+    requires { ⌜ length (now roll) ≡ arrivalSize * count ⌝ }
     ensures { λ r. ⌜ r ≡ allBelow (λ p. not (eqb (statusAt (now (roll .entry)) p) running)) count ⌝ }
 {
     let mut p = 0;
@@ -106,7 +107,7 @@ fn none_runs(roll: &[u32], count: usize) -> bool
 }
 
 fn all_ended(roll: &[u32], count: usize) -> bool
-    requires { ⌜ length (now roll) ≡ 4 * count ⌝ }
+    requires { ⌜ length (now roll) ≡ arrivalSize * count ⌝ }
     ensures { λ r. ⌜ r ≡ allBelow (λ p. eqb (statusAt (now (roll .entry)) p) ended) count ⌝ }
 {
     let mut p = 0;
@@ -120,7 +121,7 @@ fn all_ended(roll: &[u32], count: usize) -> bool
 }
 
 pub fn team_status(roll: &[u32], count: usize) -> TeamStatus
-    requires { ⌜ length (now roll) ≡ 4 * count ⌝ }
+    requires { ⌜ length (now roll) ≡ arrivalSize * count ⌝ }
     ensures { λ r. ⌜ r ≡ teamStatus (now (roll .entry)) count ⌝ }
 {
     if !none_runs(roll, count) {
@@ -134,7 +135,7 @@ pub fn team_status(roll: &[u32], count: usize) -> TeamStatus
 }
 
 pub fn all_at_one_node(roll: &[u32], count: usize) -> bool
-    requires { ⌜ (length (now roll) ≡ 4 * count) × (1 ≤ count) ⌝ }
+    requires { ⌜ (length (now roll) ≡ arrivalSize * count) × (1 ≤ count) ⌝ }
     ensures { λ r. ⌜ r ≡ allAtOneNode (now (roll .entry)) count ⌝ }
 {
     let node = node_of(roll, 0);

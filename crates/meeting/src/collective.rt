@@ -5,9 +5,9 @@ ghost use mathlib.Core.Path.{_≡_};
 ghost use Prim.Native.Nat.{ℕ, _+_, _*_, _<_, _≤_};
 ghost use lib.Dec.{eqb};
 ghost use lib.ListN.{length};
-ghost use Rattle.rules.specs.Arrivals.{waiting, statusAt, runningRecord, endedRecord, withArrival};
+ghost use Rattle.rules.specs.Arrivals.{arrivalSize, waiting, statusAt, runningRecord, endedRecord, withArrival};
 ghost use Rattle.rules.specs.Collective.{arrivalOf, gatheredFrom, received, completedState, releasedRoll};
-ghost use Rattle.rules.specs.Process.{processAt, environment, top, popped};
+ghost use Rattle.rules.specs.Process.{processWords, mostProcesses, processAt, environment, top, popped};
 ghost use Rattle.rules.specs.declared.Status.the-variants.{Running};
 ghost use Rattle.process.specs.Given.{Stacked, Topped};
 ghost use Rattle.meeting.specs.Meeting.{Meeting, collectiveOf};
@@ -21,6 +21,9 @@ use process::process::process_at;
 use process::process::top;
 use rules::Arrival;
 use rules::Node;
+use rules::layout::DEPTH_AT;
+use rules::layout::GATHERED_AT;
+use rules::layout::PROCESS_WORDS;
 use table::Header;
 
 // "value and source are worked out on arrival"; "a field the kind lacks is 0"
@@ -53,12 +56,12 @@ pub fn arrival_of(
 
 // "An exchange puts bank i's value into slot i of every roster."
 fn gather(words: &mut [u32], roll: &[u32], count: usize)
-    requires { ⌜ (length (now words) ≡ 329) × (length (now roll) ≡ 4 * count) × (count ≤ 16) ⌝ }
+    requires { ⌜ (length (now words) ≡ processWords) × (length (now roll) ≡ arrivalSize * count) × (count ≤ mostProcesses) ⌝ }
     ensures { λ _. ⌜ now (words .exit) ≡ gatheredFrom (now (roll .entry)) count (now (words .entry)) ⌝ }
 {
     let mut i = 0;
     while i < count {
-        let at = 32 + i;
+        let at = GATHERED_AT + i;
         words[at] = value_of(roll, i);
         i += 1;
     }
@@ -66,7 +69,7 @@ fn gather(words: &mut [u32], roll: &[u32], count: usize)
 
 // "A broadcast gives each bank the value of the bank whose number is its own source, modulo the number of banks."
 fn receive(words: &mut [u32], roll: &[u32], count: usize, node: Node, p: usize)
-    requires { ⌜ Meeting (now roll) count node × (length (now words) ≡ 329) × (p < count) ⌝ }
+    requires { ⌜ Meeting (now roll) count node × (length (now words) ≡ processWords) × (p < count) ⌝ }
     ensures { λ _. ⌜ now (words .exit) ≡ received (now (roll .entry)) count (collectiveOf node) p (now (words .entry)) ⌝ }
 {
     let kind = node.kind;
@@ -91,14 +94,14 @@ fn complete_one(words: &mut [u32], roll: &[u32], count: usize, node: Node, p: us
 }
 
 pub fn complete(state: &mut [u32], roll: &[u32], count: usize, node: Node)
-    requires { ⌜ Meeting (now roll) count node × (length (now state) ≡ 329 * count) ⌝ }
+    requires { ⌜ Meeting (now roll) count node × (length (now state) ≡ processWords * count) ⌝ }
     requires { ⌜ ((p : ℕ) → p < count → Stacked (processAt (now state) p)) ⌝ }
     ensures { λ _. ⌜ now (state .exit) ≡ completedState (now (roll .entry)) count (collectiveOf node) (now (state .entry)) ⌝ }
 {
     let mut p = 0;
     while p < count {
-        let at = 329 * p;
-        let end = at + 329;
+        let at = PROCESS_WORDS * p;
+        let end = at + PROCESS_WORDS;
         complete_one(&mut state[at..end], roll, count, node, p);
         p += 1;
     }
@@ -106,7 +109,7 @@ pub fn complete(state: &mut [u32], roll: &[u32], count: usize, node: Node)
 
 // "from waiting to running or ended"
 fn release_one(roll: &mut [u32], p: usize, depth: u32)
-    requires { ⌜ (4 * p + 3 < length (now roll)) × (statusAt (now roll) p ≡ waiting) ⌝ }
+    requires { ⌜ (arrivalSize * p + 3 < length (now roll)) × (statusAt (now roll) p ≡ waiting) ⌝ }
     ensures { λ _. ⌜ now (roll .exit) ≡ withArrival (now (roll .entry)) p (cond (eqb depth 0) endedRecord runningRecord) ⌝ }
 {
     let arrival = read(roll, p);
@@ -118,13 +121,13 @@ fn release_one(roll: &mut [u32], p: usize, depth: u32)
 }
 
 pub fn release(state: &[u32], roll: &mut [u32], count: usize)
-    requires { ⌜ (length (now state) ≡ 329 * count) × (length (now roll) ≡ 4 * count) ⌝ }
+    requires { ⌜ (length (now state) ≡ processWords * count) × (length (now roll) ≡ arrivalSize * count) ⌝ }
     requires { ⌜ ((p : ℕ) → p < count → statusAt (now roll) p ≡ waiting) ⌝ }
     ensures { λ _. ⌜ now (roll .exit) ≡ releasedRoll (now (state .entry)) count (now (roll .entry)) ⌝ }
 {
     let mut p = 0;
     while p < count {
-        let at = 329 * p + 72;
+        let at = PROCESS_WORDS * p + DEPTH_AT;
         release_one(roll, p, state[at]);
         p += 1;
     }

@@ -10,7 +10,7 @@ use lib.ListN.{length}
 use borrow.Author.Tests.{leb-true, eq-eqb}
 use Rattle.rules.specs.declared.Node.{Node}
 use Rattle.rules.specs.Arrivals.{running, statusAt}
-use Rattle.rules.specs.Process.{processAt, depth, top, stackPlaces}
+use Rattle.rules.specs.Process.{stackPlaces, processWords, processAt, depth, top}
 use Rattle.rules.specs.Step.{stackFits, recordFits, processFits}
 use Rattle.rules.specs.Table.{nodeAt}
 use Rattle.rules.specs.WellFormed.{isStatement}
@@ -23,7 +23,7 @@ use Rattle.questions.proofs.QuestionLaws.{record-empty, top-fits}
 
 -- one process that question 23 holds of
 module _ (table state roll : List ℕ) (q : ℕ) (fits : processFits table state roll q ≡ true) where
-  bounded : depth (processAt state q) ≤ 256
+  bounded : depth (processAt state q) ≤ stackPlaces
   unfolding processFits
   bounded =
       leb-true _ stackPlaces
@@ -52,7 +52,7 @@ module _ (table state roll : List ℕ) (q : ℕ) (fits : processFits table state
             absurd (omega arith)
       ]
 
-  pub fits-stacked : (count : ℕ) → length state ≡ 329 * count → q < count → (statusAt roll q ≡ 2 → ⊥)
+  pub fits-stacked : (count : ℕ) → length state ≡ processWords * count → q < count → (statusAt roll q ≡ 2 → ⊥)
       → Stacked (processAt state q)
   fits-stacked count sized l u = record { sized = process-length state count q sized l; held = held u; bounded = bounded }
 

@@ -11,10 +11,10 @@ use lib.ListN.{getD}
 use borrow.Author.Tests.{ne-eqb}
 use Rattle.rules.specs.declared.Node.{Node}
 use Rattle.rules.specs.Arrivals.{statusAt}
-use Rattle.rules.specs.Evaluation.{Environment}
-use Rattle.rules.specs.Process.{depth, top, stackAt, needsPlace}
+use Rattle.rules.specs.Evaluation.{Environment, doors}
+use Rattle.rules.specs.Process.{variablePlaces, mostProcesses, depthAt, stackAt, depth, top, needsPlace}
 use Rattle.rules.specs.Step.{stackFits, recordFits}
-use Rattle.rules.specs.Table.{nodes, statementOf}
+use Rattle.rules.specs.Table.{firstStatement, lastStatement, nodes, statementOf}
 use Rattle.rules.specs.WellFormed.{isStatement}
 use Rattle.rules.proofs.ChoiceLaws.{bool-cases, all-at}
 use Rattle.rules.proofs.Formed.{Formed}
@@ -32,7 +32,7 @@ pub top-fits : (table words : List ℕ) → stackFits table words ≡ true → 1
     → isStatement table (top words) ≡ true
 unfolding stackFits top
 top-fits table words e l =
-    let at : 73 + (depth words - 1) ≡ 72 + depth words = omega arith in
+    let at : stackAt + (depth words - 1) ≡ depthAt + depth words = omega arith in
     rw at at (all-at (λ i. isStatement table (getD words (stackAt + i) 0)) (depth words) e (depth words - 1) (omega arith))
 
 -- an ended process's stack is empty, and no other's
@@ -50,7 +50,7 @@ record-empty table words roll p u e =
     (bool-cases (eqb (statusAt roll p) 0))
 
 -- only kinds 18 and 20 can need a stack place
-needs-at : (table : List ℕ) (env : Environment) (m : Node) (j : ℕ) → m .kind - 16 ≡ j → j < 10
+needs-at : (table : List ℕ) (env : Environment) (m : Node) (j : ℕ) → m .kind - firstStatement ≡ j → j < 10
     → (m .kind ≡ 18 → ⊥)
     → (m .kind ≡ 20 → ⊥) → needsPlace table env (statementOf m) ≡ false
 unfolding statementOf needsPlace
@@ -66,11 +66,12 @@ needs-at table env m (suc (suc (suc (suc (suc (suc (suc (suc zero)))))))) e h n 
 needs-at table env m (suc (suc (suc (suc (suc (suc (suc (suc (suc zero))))))))) e h n l = rw e
 needs-at table env m (suc (suc (suc (suc (suc (suc (suc (suc (suc (suc j)))))))))) e h n l = absurd (omega arith)
 
-pub needs-other : (table : List ℕ) (env : Environment) (m : Node) → m .kind ≤ 25 → (m .kind ≡ 18 → ⊥)
+pub needs-other : (table : List ℕ) (env : Environment) (m : Node) → m .kind ≤ lastStatement → (m .kind ≡ 18 → ⊥)
     → (m .kind ≡ 20 → ⊥)
     → needsPlace table env (statementOf m) ≡ false
-needs-other table env m h n l = needs-at table env m (m .kind - 16) refl (omega arith) n l
+needs-other table env m h n l = needs-at table env m (m .kind - firstStatement) refl (omega arith) n l
 
 -- the start words of all processes are few
-pub given-fits : (size count : ℕ) → size ≤ 44 → count ≤ 16 → size * count ≤ 704
+pub given-fits : (size count : ℕ) → size ≤ variablePlaces + doors → count ≤ mostProcesses
+    → size * count ≤ (variablePlaces + doors) * mostProcesses
 given-fits size count h k = mul-le-mul h k

@@ -6,7 +6,7 @@ use Prim.Native.Nat.{ℕ, _*_, _≤_}
 use lib.Dec.{leb}
 use lib.ListN.{length}
 use Rattle.rules.specs.Arrivals.{arrivalSize}
-use Rattle.rules.specs.Process.{processWords, stackPlaces, depth}
+use Rattle.rules.specs.Process.{stackPlaces, processWords, mostProcesses, depth}
 use Rattle.rules.specs.Step.{stackFits, recordFits}
 use Rattle.table.specs.declared.Header.{Header}
 use Rattle.process.specs.Given.{Read}
@@ -15,7 +15,7 @@ use Rattle.process.specs.Given.{Read}
 pub record Team (table : List ℕ) (header : Header) (state roll : List ℕ) (count : ℕ) : Type 0 where
   pub read : Read table header
   pub some : 1 ≤ count
-  pub few : count ≤ 16
+  pub few : count ≤ mostProcesses
   pub stated : length state ≡ processWords * count
   pub rolled : length roll ≡ arrivalSize * count
 

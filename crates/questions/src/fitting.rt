@@ -3,10 +3,11 @@ ghost use mathlib.Core.Bool.{true, false};
 ghost use mathlib.Core.Path.{_≡_};
 ghost use Prim.Native.Nat.{_+_, _*_, _<_, _≤_};
 ghost use lib.ListN.{length};
+ghost use Rattle.rules.specs.Arrivals.{arrivalSize};
 ghost use Rattle.rules.specs.Choice.{firstFailing};
-ghost use Rattle.rules.specs.Process.{depth, top};
+ghost use Rattle.rules.specs.Process.{stackPlaces, processWords, depth, top};
 ghost use Rattle.rules.specs.Step.{stackFits, fieldsZero, lackedZero, waitFits, recordFits, processFits};
-ghost use Rattle.rules.specs.Table.{statementOf, onCollective};
+ghost use Rattle.rules.specs.Table.{lastStatement, statementOf, onCollective};
 ghost use Rattle.rules.specs.WellFormed.{isStatement};
 ghost use Rattle.process.specs.Given.{Read, Stacked};
 ghost use Rattle.questions.specs.Asked.{wordsFit};
@@ -17,8 +18,16 @@ use meeting::arrivals::value_of;
 use process::process::process_at;
 use process::process::top;
 use rules::Node;
+use rules::layout::DEPTH_AT;
+use rules::layout::FIRST_STATEMENT;
+use rules::layout::LAST_STATEMENT;
+use rules::layout::STACK_AT;
+use rules::layout::STACK_PLACES;
 use table::Header;
 use table::words::node_at;
+
+// The depth of a full stack, as a word holds it.
+pub(crate) const MOST_DEPTH: u32 = STACK_PLACES as u32;
 
 fn is_statement(table: &[u8], header: Header, n: usize) -> bool
     requires { ⌜ Read (now table) header ⌝ }
@@ -28,22 +37,22 @@ fn is_statement(table: &[u8], header: Header, n: usize) -> bool
         return false;
     }
     let kind = node_at(table, header, n).kind;
-    if kind < 16 {
+    if kind < FIRST_STATEMENT {
         return false;
     }
-    kind <= 25
+    kind <= LAST_STATEMENT
 }
 
 // "each stack entry below depth a statement". Two entries a turn: with one, the turn itself is a third of the time.
 fn stack_fits(table: &[u8], header: Header, words: &[u32]) -> bool
-    requires { ⌜ Read (now table) header × (length (now words) ≡ 329) × (depth (now words) ≤ 256) ⌝ }
+    requires { ⌜ Read (now table) header × (length (now words) ≡ processWords) × (depth (now words) ≤ stackPlaces) ⌝ }
     ensures { λ r. ⌜ r ≡ stackFits (now (table .entry)) (now (words .entry)) ⌝ }
 {
-    let depth = words[72] as usize;
+    let depth = words[DEPTH_AT] as usize;
     let pairs = depth / 2;
     let mut i = 0;
     while i < pairs {
-        let at = 73 + 2 * i;
+        let at = STACK_AT + 2 * i;
         if !is_statement(table, header, words[at] as usize) {
             return false;
         }
@@ -55,11 +64,11 @@ fn stack_fits(table: &[u8], header: Header, words: &[u32]) -> bool
     if depth % 2 == 0 {
         return true;
     }
-    is_statement(table, header, words[72 + depth] as usize)
+    is_statement(table, header, words[DEPTH_AT + depth] as usize)
 }
 
 fn fields_zero(roll: &[u32], p: usize) -> bool
-    requires { ⌜ 4 * p + 3 < length (now roll) ⌝ }
+    requires { ⌜ arrivalSize * p + 3 < length (now roll) ⌝ }
     ensures { λ r. ⌜ r ≡ fieldsZero (now (roll .entry)) p ⌝ }
 {
     if node_of(roll, p) != 0 {
@@ -73,7 +82,7 @@ fn fields_zero(roll: &[u32], p: usize) -> bool
 
 // "a field the kind lacks is 0", and false of a statement that is no collective
 fn lacked_zero(roll: &[u32], p: usize, node: Node) -> bool
-    requires { ⌜ (4 * p + 3 < length (now roll)) × (node .kind ≤ 25) ⌝ }
+    requires { ⌜ (arrivalSize * p + 3 < length (now roll)) × (node .kind ≤ lastStatement) ⌝ }
     ensures { λ r. ⌜ r ≡ onCollective (statementOf node) (lackedZero (now (roll .entry)) p) false ⌝ }
 {
     let kind = node.kind;
@@ -93,7 +102,7 @@ fn lacked_zero(roll: &[u32], p: usize, node: Node) -> bool
 }
 
 fn wait_fits(table: &[u8], header: Header, words: &[u32], roll: &[u32], p: usize) -> bool
-    requires { ⌜ Read (now table) header × Stacked (now words) × (4 * p + 3 < length (now roll))
+    requires { ⌜ Read (now table) header × Stacked (now words) × (arrivalSize * p + 3 < length (now roll))
         × (isStatement (now table) (top (now words)) ≡ true) ⌝ }
     ensures { λ r. ⌜ r ≡ waitFits (now (table .entry)) (now (words .entry)) (now (roll .entry)) p ⌝ }
 {
@@ -105,12 +114,12 @@ fn wait_fits(table: &[u8], header: Header, words: &[u32], roll: &[u32], p: usize
 }
 
 fn record_fits(table: &[u8], header: Header, words: &[u32], roll: &[u32], p: usize) -> bool
-    requires { ⌜ Read (now table) header × (length (now words) ≡ 329) × (depth (now words) ≤ 256)
-        × (4 * p + 3 < length (now roll)) × (stackFits (now table) (now words) ≡ true) ⌝ }
+    requires { ⌜ Read (now table) header × (length (now words) ≡ processWords) × (depth (now words) ≤ stackPlaces)
+        × (arrivalSize * p + 3 < length (now roll)) × (stackFits (now table) (now words) ≡ true) ⌝ }
     ensures { λ r. ⌜ r ≡ recordFits (now (table .entry)) (now (words .entry)) (now (roll .entry)) p ⌝ }
 {
     let status = status_at(roll, p);
-    let empty = words[72] == 0;
+    let empty = words[DEPTH_AT] == 0;
     if status == 2 {
         if empty {
             return fields_zero(roll, p);
@@ -131,10 +140,10 @@ fn record_fits(table: &[u8], header: Header, words: &[u32], roll: &[u32], p: usi
 
 // Question 23 of one process's words.
 fn words_fit(table: &[u8], header: Header, words: &[u32], roll: &[u32], p: usize) -> bool
-    requires { ⌜ Read (now table) header × (length (now words) ≡ 329) × (4 * p + 3 < length (now roll)) ⌝ }
+    requires { ⌜ Read (now table) header × (length (now words) ≡ processWords) × (arrivalSize * p + 3 < length (now roll)) ⌝ }
     ensures { λ r. ⌜ r ≡ wordsFit (now (table .entry)) (now (words .entry)) (now (roll .entry)) p ⌝ }
 {
-    if words[72] > 256 {
+    if words[DEPTH_AT] > MOST_DEPTH {
         return false;
     }
     if !stack_fits(table, header, words) {
@@ -151,7 +160,7 @@ pub(crate) fn first_unfit(
     roll: &[u32],
     count: usize,
 ) -> usize
-    requires { ⌜ Read (now table) header × (length (now state) ≡ 329 * count) × (length (now roll) ≡ 4 * count) ⌝ }
+    requires { ⌜ Read (now table) header × (length (now state) ≡ processWords * count) × (length (now roll) ≡ arrivalSize * count) ⌝ }
     ensures { λ r. ⌜ r ≡ firstFailing (processFits (now (table .entry)) (now (state .entry)) (now (roll .entry))) count ⌝ }
 {
     let mut p = 0;

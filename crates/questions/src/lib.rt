@@ -11,6 +11,7 @@ ghost use Rattle.rules.specs.Table.{statementAt};
 ghost use Rattle.rules.specs.WellFormed.{wellFormed};
 ghost use Rattle.process.specs.Given.{Topped};
 ghost use Rattle.questions.specs.Asked.{Team};
+use crate::fitting::MOST_DEPTH;
 use crate::fitting::first_unfit;
 use meeting::arrivals::all_at_one_node;
 use meeting::arrivals::status_at;
@@ -19,6 +20,11 @@ use process::process::process_at;
 use process::process::top;
 use rules::Node;
 use rules::Verdict;
+use rules::layout::ARRIVAL_WORDS;
+use rules::layout::DEPTH_AT;
+use rules::layout::DOOR_PLACES;
+use rules::layout::MOST_PROCESSES;
+use rules::layout::PROCESS_WORDS;
 use table::Header;
 use table::shape::refused;
 use table::words::header;
@@ -43,18 +49,18 @@ pub fn start_asked(
     if processes < 1 {
         return refused(18, 0);
     }
-    if processes > 16 {
+    let count = processes as usize;
+    if count > MOST_PROCESSES {
         return refused(18, 0);
     }
-    let count = processes as usize;
-    let size = header(table).variables + 12;
+    let size = header(table).variables + DOOR_PLACES;
     if words.len() != size * count {
         return refused(19, 0);
     }
-    if state.len() != 329 * count {
+    if state.len() != PROCESS_WORDS * count {
         return refused(20, 0);
     }
-    if roll.len() != 4 * count {
+    if roll.len() != ARRIVAL_WORDS * count {
         return refused(21, 0);
     }
     Verdict::Accepted
@@ -65,17 +71,17 @@ pub fn sizes_asked(state: &[u32], roll: &[u32]) -> Verdict
     ensures { λ r. ⌜ r ≡ (question21 (processesIn (now (roll .entry))) (now (roll .entry))
         then question20 (processesIn (now (roll .entry))) (now (state .entry))) ⌝ }
 {
-    let count = roll.len() / 4;
-    if roll.len() != 4 * count {
+    let count = roll.len() / ARRIVAL_WORDS;
+    if roll.len() != ARRIVAL_WORDS * count {
         return refused(21, 0);
     }
     if count < 1 {
         return refused(21, 0);
     }
-    if count > 16 {
+    if count > MOST_PROCESSES {
         return refused(21, 0);
     }
-    if state.len() != 329 * count {
+    if state.len() != PROCESS_WORDS * count {
         return refused(20, 0);
     }
     Verdict::Accepted
@@ -121,7 +127,7 @@ fn place_lacked(
         return false;
     }
     let words = process_at(state, p);
-    if words[72] != 256 {
+    if words[DEPTH_AT] != MOST_DEPTH {
         return false;
     }
     let node = node_at(table, header, top(words) as usize);

@@ -3,6 +3,7 @@ use Rattle.questions.proofs.QuestionLaws.{given-fits}
 use Rattle.table.specs.Header.{headerOf}
 use Rattle.rules.proofs.Formed.{formed}
 use Rattle.rules.specs.Table.{variables}
+use Rattle.rules.specs.Evaluation.{doors}
 use Rattle.rules.specs.Start.{startSize}
 use borrow.Author.Tests.{eq-eqb, ne-eqb, lt-leb, le-leb}
 use native.Mathlib.Omega.{arith}
@@ -45,7 +46,7 @@ mul-if3 c =
     let same = ap (λ h. h .variables) (c .before .header .ensures) in
     omega (
       arith,
-      given-fits (c .before .header .result .variables + 12) (args .processes) (omega arith)
+      given-fits (c .before .header .result .variables + doors) (args .processes) (omega arith)
           (c .before .before .if2 .left),
     )
 

@@ -4,7 +4,7 @@ use Rattle.process.proofs.LentLaws.{lent, back}
 use Rattle.meeting.specs.Meeting.{collectiveOf}
 use Rattle.rules.proofs.StackLaws.{popped-length, received-length}
 use Rattle.rules.proofs.ProcessLaws.{KeepsSize, each-process-length, each-process-kept}
-use Rattle.rules.specs.Process.{eachProcess, popped, withProcess}
+use Rattle.rules.specs.Process.{processWords, eachProcess, popped, withProcess}
 use Rattle.rules.specs.Collective.{received, completedState}
 use Rattle.rules.specs.declared.Node.{Node}
 use lib.ListN.{length}
@@ -23,8 +23,8 @@ taken-keeps : (roll : List ℕ) (count : ℕ) (node : Node) → KeepsSize (taken
 taken-keeps roll count node q words h = popped-length _ ∙ received-length roll count (collectiveOf node) q words ∙ h
 
 still-sized : (roll : List ℕ) (count : ℕ) (node : Node) (state₀ state : List ℕ) (p : ℕ) → p ≤ count
-    → length state₀ ≡ 329 * count
-    → state ≡ eachProcess (taken roll count node) p state₀ → length state ≡ 329 * count
+    → length state₀ ≡ processWords * count
+    → state ≡ eachProcess (taken roll count node) p state₀ → length state ≡ processWords * count
 still-sized roll count node state₀ state p l sized e =
     ap length e ∙ each-process-length (taken roll count node) state₀ count (taken-keeps roll count node) sized p l ∙ sized
 

@@ -1,16 +1,16 @@
 -- `meeting::collective::release` meets its contract.
 -- The loop's roll has the records of the processes passed released; the others still wait.
-use Rattle.rules.proofs.ProcessLaws.{process-at}
+use Rattle.process.proofs.LentLaws.{depth-in}
 use Rattle.rules.proofs.ArrivalLaws.{each-arrival-length, each-arrival-kept}
 use Rattle.rules.specs.Process.{processAt, depth}
 use Rattle.rules.specs.Collective.{releasedRoll}
 use Rattle.rules.specs.Arrivals.{eachArrival, statusAt, endedRecord, runningRecord}
 use Rattle.rules.specs.declared.Arrival.{Arrival}
-use lib.ListN.{length, getD}
+use lib.ListN.{length}
 use lib.Dec.{eqb}
 use native.Mathlib.Numerals.{add-one}
 use native.Mathlib.Omega.{arith}
-use Prim.Native.Nat.{ℕ, suc, _-_, _≤_, _+_, _*_}
+use Prim.Native.Nat.{ℕ, suc, _-_, _≤_, _+_}
 use mathlib.Core.Path.{_≡_, refl, _∙_, ap}
 use mathlib.Core.List.{List}
 use mathlib.Core.Bool.{cond}
@@ -62,15 +62,13 @@ loop-less : tie.Need-loop-less Inv-loop μ-loop
 loop-less c = omega arith
 
 loop-again : tie.Need-loop-again Inv-loop μ-loop
-unfolding eachArrival depth
+unfolding eachArrival
 loop-again c =
     let past = c .before .before .before .before .before .before in
     let loop = past .loop in
     let next : loop .p + 1 ≡ suc (loop .p) = add-one _ in
     let state = past .before .before .before .args .state .now in
-    let here : getD (processAt state (loop .p)) 72 0 ≡ getD state (329 * loop .p + 72) 0 =
-    process-at state (loop .p) 72 (omega arith) in
-    (omega arith, rw (next, here, ← loop .inv .1) (c .before .before .release-one .ensures))
+    (omega arith, rw (next, depth-in state (loop .p), ← loop .inv .1) (c .before .before .release-one .ensures))
 
 same-length : tie.Need-same-length Inv-loop μ-loop
 same-length c = ap length (c .before .loop .inv .1) ∙ each-arrival-length _ _ _

@@ -3,7 +3,7 @@ use lib.ListN.{getD}
 use Prim.Native.Nat.{_≤_}
 use Rattle.questions.proofs.QuestionLaws.{record-empty, top-fits}
 use Rattle.rules.specs.Step.{recordFits}
-use Rattle.rules.specs.Process.{depth}
+use Rattle.rules.specs.Process.{depthAt, depth}
 use borrow.Author.Tests.{ne-eqb, eqb-false}
 use native.Mathlib.Omega.{arith}
 use mathlib.Core.Path.{_≡_, sym, _∙_}
@@ -50,8 +50,8 @@ wait-fits-requires c κs =
     let past = c .before .before .before .before .before .before .before .before .before in
     let given = past .pre in
     let words = past .args .words .now in
-    let some : getD words 72 0 ≡ 0 → ⊥ = eqb-false (getD words 72 0) 0 (c .before .before .if3 .left) in
-    let held : 1 ≤ getD words 72 0 = omega arith in
+    let some : getD words depthAt 0 ≡ 0 → ⊥ = eqb-false (getD words depthAt 0) 0 (c .before .before .if3 .left) in
+    let held : 1 ≤ getD words depthAt 0 = omega arith in
     (given .0, record { sized = given .1; held = held; bounded = given .2 }, given .3, top-fits _ words (given .4) held)
 
 returns-5 : tie.Need-returns-5

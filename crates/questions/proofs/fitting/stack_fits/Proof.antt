@@ -7,7 +7,7 @@ use native.Mathlib.Omega.{arith}
 use lib.ListN.{getD}
 use borrow.Author.Tests.{not-true, not-false}
 use Rattle.rules.specs.Choice.{allBelow}
-use Rattle.rules.specs.Process.{depth, stackAt}
+use Rattle.rules.specs.Process.{depthAt, stackAt, depth}
 use Rattle.rules.specs.Step.{stackFits}
 use Rattle.rules.specs.WellFormed.{isStatement}
 use Rattle.rules.proofs.ChoiceLaws.{Passed, passed-none, passed-more, all-true, all-false}
@@ -18,7 +18,7 @@ abbrev entry-fits : List ℕ → List ℕ → ℕ → Bool
 entry-fits table words i = isStatement table (getD words (stackAt + i) 0)
 
 -- an entry by its place among the words
-entry-at : (table words : List ℕ) (i at : ℕ) (r : Bool) → at ≡ 73 + i → r ≡ isStatement table (getD words at 0)
+entry-at : (table words : List ℕ) (i at : ℕ) (r : Bool) → at ≡ stackAt + i → r ≡ isStatement table (getD words at 0)
     → r ≡ entry-fits table words i
 entry-at table words i at r e h = h ∙ ap (λ (k : ℕ). isStatement table (getD words k 0)) e
 
@@ -61,7 +61,7 @@ unfolding depth
 shared-slice-read-is-statement c = omega arith
 
 cast-is-statement : tie.Need-cast-is-statement Inv-loop μ-loop
-cast-is-statement c = omega (arith, c .shared-slice-known4 .given (73 + 2 * c .before .before .loop .i))
+cast-is-statement c = omega (arith, c .shared-slice-known4 .given (stackAt + 2 * c .before .before .loop .i))
 
 is-statement-requires : tie.Need-is-statement-requires Inv-loop μ-loop
 is-statement-requires c κs = c .before .before .before .before .before .before .pre .0
@@ -86,7 +86,7 @@ unfolding depth
 shared-slice-read-is-statement-2 c = omega arith
 
 cast-is-statement-2 : tie.Need-cast-is-statement-2 Inv-loop μ-loop
-cast-is-statement-2 c = omega (arith, c .shared-slice-known5 .given (73 + 2 * c .before .before .before .before .before .loop .i + 1))
+cast-is-statement-2 c = omega (arith, c .shared-slice-known5 .given (stackAt + 2 * c .before .before .before .before .before .loop .i + 1))
 
 is-statement-requires-2 : tie.Need-is-statement-requires-2 Inv-loop μ-loop
 is-statement-requires-2 c κs = c .before .before .before .before .before .before .before .before .before .pre .0
@@ -97,7 +97,7 @@ returns-2 c =
     let args = c .before .before .before .before .before .before .before .before .before .before .before .args in
     let i = c .before .before .before .before .before .before .before .loop .i in
     sym (all-false (entry-fits (args .table .now) (args .words .now)) _ (2 * i + 1) (omega arith)
-    (sym (entry-at (args .table .now) (args .words .now) (2 * i + 1) (73 + 2 * i + 1) _ (omega arith)
+    (sym (entry-at (args .table .now) (args .words .now) (2 * i + 1) (stackAt + 2 * i + 1) _ (omega arith)
     (c .before .is-statement2 .ensures))
     ∙ not-true _ (c .if2 .taken)))
 
@@ -116,7 +116,7 @@ loop-again c =
     let i = loop .i in
     let first = sym (c .before .before .before .before .is-statement .ensures) ∙ not-false _ (c .before .before .before .if1 .left) in
     let second =
-    sym (entry-at (args .table .now) (args .words .now) (2 * i + 1) (73 + 2 * i + 1) _ (omega arith)
+    sym (entry-at (args .table .now) (args .words .now) (2 * i + 1) (stackAt + 2 * i + 1) _ (omega arith)
     (c .before .is-statement2 .ensures))
     ∙ not-false _ (c .if2 .left) in
     let both = passed-more _ _ (passed-more _ _ (loop .inv .1) first) second in
@@ -144,7 +144,7 @@ shared-slice-read-is-statement-3 c = omega arith
 cast-is-statement-3 : tie.Need-cast-is-statement-3 Inv-loop μ-loop
 cast-is-statement-3 c =
     let words = c .before .before .before .before .before .before .before .args .words .now in
-    omega (arith, c .shared-slice-known6 .given (72 + getD words 72 0))
+    omega (arith, c .shared-slice-known6 .given (depthAt + getD words depthAt 0))
 
 is-statement-requires-3 : tie.Need-is-statement-requires-3 Inv-loop μ-loop
 is-statement-requires-3 c κs = c .before .before .before .before .before .before .before .pre .0
@@ -154,10 +154,10 @@ unfolding stackFits depth
 returns-4 c =
     let args = c .before .before .before .before .before .before .before .before .args in
     let loop = c .before .before .before .before .loop in
-    let high = getD (args .words .now) 72 0 in
+    let high = getD (args .words .now) depthAt 0 in
     let odd : high ≡ 2 * loop .i + 1 = omega arith in
     decides (entry-fits (args .table .now) (args .words .now)) (2 * loop .i) high _ odd (loop .inv .1)
-    (entry-at (args .table .now) (args .words .now) (2 * loop .i) (72 + high) _ (omega arith) (c .is-statement3 .ensures))
+    (entry-at (args .table .now) (args .words .now) (2 * loop .i) (depthAt + high) _ (omega arith) (c .is-statement3 .ensures))
 
 pub stack-fits-spec : {M : Type 1} → statement M
 stack-fits-spec =
