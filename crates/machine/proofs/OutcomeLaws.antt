@@ -13,7 +13,7 @@ use Rattle.rules.specs.Arrivals.{running, waiting, statusAt, endedRecord, withA
 use Rattle.rules.specs.Collective.{arrivalOf, completedState, releasedRoll}
 use Rattle.rules.specs.Process.{processAt, withProcess, environment, depth, top, advanced}
 use Rattle.rules.specs.Step.{moved, completed, arrivedAt, stepRunning, stepTaken}
-use Rattle.rules.specs.Table.{Statement, Collective, nodeAt, statementAt, statementOf, onCollective}
+use Rattle.rules.specs.Table.{lastStatement, Statement, Collective, nodeAt, statementAt, statementOf, onCollective}
 use Rattle.meeting.specs.Meeting.{collectiveOf}
 use Rattle.machine.specs.Outcomes.{Gives}
 use Rattle.rules.proofs.KindLaws.{alone-of}
@@ -64,7 +64,7 @@ module _ {A : Type 0} (s : Statement) (m : Node) (e : s ≡ statementOf m) (meet
   on-alone : m .kind < 23 → onCollective s meet other ≡ other
   on-alone l = ap (λ x. onCollective x meet other) e ∙ alone-of m meet other l
 
-  on-collective : 23 ≤ m .kind → m .kind ≤ 25 → onCollective s meet other ≡ meet (collectiveOf m)
+  on-collective : 23 ≤ m .kind → m .kind ≤ lastStatement → onCollective s meet other ≡ meet (collectiveOf m)
   on-collective h k = ap (λ x. onCollective x meet other) (e ∙ collective-of m h k)
 
 module _ (table state roll : List ℕ) (count p : ℕ) (m : Node) (here : m ≡ nodeAt table (top (processAt state p))) where
@@ -80,7 +80,7 @@ module _ (table state roll : List ℕ) (count p : ℕ) (m : Node) (here : m ≡ 
   unfolding stepRunning
   run-alone l = on-alone (statementAt table (top (processAt state p))) m is-top _ _ l
 
-  pub run-meets : 23 ≤ m .kind → m .kind ≤ 25
+  pub run-meets : 23 ≤ m .kind → m .kind ≤ lastStatement
       → stepRunning table state roll count p
       ≡ arrivedAt state
       (withArrival roll p

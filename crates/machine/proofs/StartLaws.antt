@@ -2,7 +2,7 @@
 use mathlib.Core.Bool.{cond}
 use mathlib.Core.List.{List}
 use mathlib.Core.Path.{_≡_, sym, _∙_}
-use Prim.Native.Nat.{ℕ, _+_, _-_, _*_, _≤_, _<_}
+use Prim.Native.Nat.{ℕ, suc, _+_, _-_, _*_, _≤_, _<_}
 use native.Mathlib.Decide.{decLt}
 use native.Mathlib.Nat.{mul-le-mul-left, mul-suc}
 use native.Mathlib.Omega.{arith}
@@ -10,69 +10,69 @@ use lib.Dec.{eqb}
 use lib.ListN.{length, getD}
 use lib.Seq.{ext-getD}
 use borrow.Author.Tests.{lt-ltb, le-ltb, ne-eqb}
-use Rattle.rules.specs.Process.{depth}
+use Rattle.rules.specs.Process.{variablePlaces, gatheredAt, doorsAt, latchesAt, depthAt, stackAt, processWords, depth}
 use Rattle.rules.specs.Start.{startSize, startProcess}
 use Rattle.rules.specs.Table.{variables, mainBody}
 use Rattle.rules.proofs.VerdictLaws.{Laid, laid}
 use Rattle.machine.specs.Layout.{laidWord}
 
-module _ (table given : List ℕ) (few : variables table ≤ 32) (sized : length given ≡ startSize table) where
+module _ (table given : List ℕ) (few : variables table ≤ variablePlaces) (sized : length given ≡ startSize table) where
   laid-here : Laid table given
   laid-here = laid table given few sized
 
-  behind : (i : ℕ) → 60 ≤ i → i < 329
-      → cond (eqb i 72) 1 (cond (eqb i 73) (mainBody table) 0) ≡ getD (startProcess table given) i 0
+  behind : (i : ℕ) → latchesAt ≤ i → i < processWords
+      → cond (eqb i depthAt) 1 (cond (eqb i stackAt) (mainBody table) 0) ≡ getD (startProcess table given) i 0
   unfolding depth
   behind i h l =
-      elim (decLt i 72) [
+      elim (decLt i depthAt) [
         | yes b ↦
-            let e : 60 + (i - 60) ≡ i = omega arith in
-            simp (ne-eqb i 72 (λ x. omega arith), ne-eqb i 73 (λ x. omega arith))
-            (sym (rw e at (laid-here .latch (i - 60) (omega arith))))
+            let e : latchesAt + (i - latchesAt) ≡ i = omega arith in
+            simp (ne-eqb i depthAt (λ x. omega arith), ne-eqb i stackAt (λ x. omega arith))
+            (sym (rw e at (laid-here .latch (i - latchesAt) (omega arith))))
         | no b ↦
-            elim (decLt i 73) [
-              | yes d ↦ let e : i ≡ 72 = omega arith in rw e (sym (laid-here .depth-one))
+            elim (decLt i stackAt) [
+              | yes d ↦ let e : i ≡ depthAt = omega arith in rw e (sym (laid-here .depth-one))
               | no d ↦
-                  elim (decLt i 74) [
-                    | yes f ↦ let e : i ≡ 73 = omega arith in rw e (sym (laid-here .entry))
+                  elim (decLt i (suc stackAt)) [
+                    | yes f ↦ let e : i ≡ stackAt = omega arith in rw e (sym (laid-here .entry))
                     | no f ↦
-                        let e : 74 + (i - 74) ≡ i = omega arith in
-                        simp (ne-eqb i 72 (λ x. omega arith), ne-eqb i 73 (λ x. omega arith))
-                        (sym (rw e at (laid-here .vacant (i - 74) (omega arith))))
+                        let e : stackAt + (1 + (i - suc stackAt)) ≡ i = omega arith in
+                        simp (ne-eqb i depthAt (λ x. omega arith), ne-eqb i stackAt (λ x. omega arith))
+                        (sym (rw e at (laid-here .vacant (i - suc stackAt) (omega arith))))
                   ]
             ]
       ]
 
-  laid-at : (i : ℕ) → i < 329 → laidWord (variables table) (mainBody table) given i ≡ getD (startProcess table given) i 0
+  laid-at : (i : ℕ) → i < processWords → laidWord (variables table) (mainBody table) given i ≡ getD (startProcess table given) i 0
   laid-at i l =
       elim (decLt i (variables table)) [
         | yes a ↦ simp (lt-ltb i (variables table) a) (sym (laid-here .variable i a))
         | no a ↦
-            elim (decLt i 48) [
+            elim (decLt i doorsAt) [
               | yes b ↦
-                  simp (le-ltb i (variables table) (omega arith), lt-ltb i 48 b)
-                  (elim (decLt i 32) [
+                  simp (le-ltb i (variables table) (omega arith), lt-ltb i doorsAt b)
+                  (elim (decLt i gatheredAt) [
                     | yes d ↦ sym (laid-here .unused i (omega arith) d)
                     | no d ↦
-                        let e : 32 + (i - 32) ≡ i = omega arith in
-                        sym (rw e at (laid-here .gathered (i - 32) (omega arith)))
+                        let e : gatheredAt + (i - gatheredAt) ≡ i = omega arith in
+                        sym (rw e at (laid-here .gathered (i - gatheredAt) (omega arith)))
                   ])
               | no b ↦
-                  elim (decLt i 60) [
+                  elim (decLt i latchesAt) [
                     | yes d ↦
-                        let e : 48 + (i - 48) ≡ i = omega arith in
-                        simp (le-ltb i (variables table) (omega arith), le-ltb i 48 (omega arith), lt-ltb i 60 d)
-                        (sym (rw e at (laid-here .door (i - 48) (omega arith))))
+                        let e : doorsAt + (i - doorsAt) ≡ i = omega arith in
+                        simp (le-ltb i (variables table) (omega arith), le-ltb i doorsAt (omega arith), lt-ltb i latchesAt d)
+                        (sym (rw e at (laid-here .door (i - doorsAt) (omega arith))))
                     | no d ↦
-                        simp (le-ltb i (variables table) (omega arith), le-ltb i 48 (omega arith), le-ltb i 60 (omega arith))
+                        simp (le-ltb i (variables table) (omega arith), le-ltb i doorsAt (omega arith), le-ltb i latchesAt (omega arith))
                         (behind i (omega arith) l)
                   ]
             ]
       ]
 
   -- words that are laid out so are the process's
-  pub laid-all : (words : List ℕ) → length words ≡ 329
-      → ((i : ℕ) → i < 329 → getD words i 0 ≡ laidWord (variables table) (mainBody table) given i)
+  pub laid-all : (words : List ℕ) → length words ≡ processWords
+      → ((i : ℕ) → i < processWords → getD words i 0 ≡ laidWord (variables table) (mainBody table) given i)
       → words ≡ startProcess table given
   laid-all words l h =
       ext-getD 0 words (startProcess table given) (l ∙ sym (laid-here .sized))

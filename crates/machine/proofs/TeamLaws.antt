@@ -9,7 +9,7 @@ use borrow.Author.Tests.{eq-eqb}
 use Rattle.rules.specs.declared.Arrival.{Arrival}
 use Rattle.rules.specs.declared.Node.{Node}
 use Rattle.rules.specs.Arrivals.{running, waiting, statusAt, withArrival, allAtOneNode}
-use Rattle.rules.specs.Process.{processAt, environment, depth, top, needsPlace}
+use Rattle.rules.specs.Process.{stackPlaces, processAt, environment, depth, top, needsPlace}
 use Rattle.rules.specs.Step.{placeLacked}
 use Rattle.rules.specs.Table.{nodeAt, statementAt}
 use Rattle.rules.specs.WellFormed.{isStatement}
@@ -37,13 +37,13 @@ module _ {table : List ℕ} {header : Header} {state roll : List ℕ} {count p :
 
   -- 24: a full stack has no statement on top that needs a place
   ready-place : needsPlace table (environment (processAt state p) p count) (statementAt table (top (processAt state p))) ≡ true
-      → depth (processAt state p) < 256
+      → depth (processAt state p) < stackPlaces
   unfolding placeLacked
   ready-place needs =
-      elim (decLt (depth (processAt state p)) 256) [
+      elim (decLt (depth (processAt state p)) stackPlaces) [
         | yes l ↦ l
         | no l ↦
-            let full : depth (processAt state p) ≡ 256 = omega (arith, ready-stacked .bounded) in
+            let full : depth (processAt state p) ≡ stackPlaces = omega (arith, ready-stacked .bounded) in
             let lacked : true ≡ false = rw (eq-eqb _ _ runs, eq-eqb _ _ full, needs) at (r .place) in
             let z : _≡_ {A = ℕ} 0 1 = cc in
             absurd (omega arith)

@@ -12,6 +12,8 @@ use Rattle.rules.specs.declared.Stepped.the-variants.{Refused}
 use Rattle.rules.specs.declared.Verdict.{Verdict}
 use Rattle.rules.specs.declared.Verdict.the-variants.{Accepted, Refused as Failed}
 use Rattle.rules.specs.Answers.{_then_, askEach}
+use Rattle.rules.specs.Arrivals.{arrivalSize}
+use Rattle.rules.specs.Process.{processWords, mostProcesses}
 use Rattle.rules.specs.Start.{question18, question19, question20, question21}
 use Rattle.rules.specs.Start.{startSize, startVerdict, startState, startRoll, started, startedBy}
 use Rattle.rules.specs.Step.{question22, question23, question24, processesIn, processFits, placeLacked}
@@ -85,20 +87,20 @@ module _ (table state roll : List ℕ) (p : ℕ) where
       unfolding stepped steppedBy
       taken-step e = rw (left-over ∙ e)
 
-      question-21 : (eqb (length roll) (4 * processesIn roll) && leb 1 (processesIn roll) && leb (processesIn roll) 16) ≡ true
+      question-21 : (eqb (length roll) (arrivalSize * processesIn roll) && leb 1 (processesIn roll) && leb (processesIn roll) mostProcesses) ≡ true
       question-21 = ask-holds 21 _ (then-first (question21 (processesIn roll) roll) (question20 (processesIn roll) state) sized)
 
       pub team-of : {header : Header} → Read table header → Team table header state roll (processesIn roll)
       team-of r =
           let n = processesIn roll in
-          let front = both-left (eqb (length roll) (4 * n) && leb 1 n) (leb n 16) question-21 in
+          let front = both-left (eqb (length roll) (arrivalSize * n) && leb 1 n) (leb n mostProcesses) question-21 in
           record {
             read = r;
-            some = leb-true 1 n (both-right (eqb (length roll) (4 * n)) (leb 1 n) front);
-            few = leb-true n 16 (both-right (eqb (length roll) (4 * n) && leb 1 n) (leb n 16) question-21);
-            stated = eqb-true (length state) (329 * n)
+            some = leb-true 1 n (both-right (eqb (length roll) (arrivalSize * n)) (leb 1 n) front);
+            few = leb-true n mostProcesses (both-right (eqb (length roll) (arrivalSize * n) && leb 1 n) (leb n mostProcesses) question-21);
+            stated = eqb-true (length state) (processWords * n)
                 (ask-holds 20 _ (then-rest (question21 n roll) (question20 n state) sized));
-            rolled = eqb-true (length roll) (4 * n) (both-left (eqb (length roll) (4 * n)) (leb 1 n) front);
+            rolled = eqb-true (length roll) (arrivalSize * n) (both-left (eqb (length roll) (arrivalSize * n)) (leb 1 n) front);
           }
 
 -- questions 22 to 24 hold
@@ -152,11 +154,11 @@ module _ (table : List ℕ) (count : ℕ) (words state roll : List ℕ) where
       after19 : (question20 count state then question21 count roll) ≡ Accepted
       after19 = then-rest (question19 table count words) _ after18
 
-      pub started-rolled : length roll ≡ 4 * count
+      pub started-rolled : length roll ≡ arrivalSize * count
       started-rolled =
-          eqb-true (length roll) (4 * count)
-          (both-left (eqb (length roll) (4 * count)) (leb 1 count)
-          (both-left (eqb (length roll) (4 * count) && leb 1 count) (leb count 16)
+          eqb-true (length roll) (arrivalSize * count)
+          (both-left (eqb (length roll) (arrivalSize * count)) (leb 1 count)
+          (both-left (eqb (length roll) (arrivalSize * count) && leb 1 count) (leb count mostProcesses)
           (ask-holds 21 _ (then-rest (question20 count state) (question21 count roll) after19))))
 
       pub startable : Startable table count words state
@@ -164,11 +166,11 @@ module _ (table : List ℕ) (count : ℕ) (words state roll : List ℕ) where
           let few = ask-holds 18 _ (then-first (question18 count) _ holds) in
           record {
             well-formed = formed;
-            some = leb-true 1 count (both-left (leb 1 count) (leb count 16) few);
-            few = leb-true count 16 (both-right (leb 1 count) (leb count 16) few);
+            some = leb-true 1 count (both-left (leb 1 count) (leb count mostProcesses) few);
+            few = leb-true count mostProcesses (both-right (leb 1 count) (leb count mostProcesses) few);
             worded = eqb-true (length words) (startSize table * count)
                 (ask-holds 19 _ (then-first (question19 table count words) _ after18));
-            stated = eqb-true (length state) (329 * count) (ask-holds 20 _ (then-first (question20 count state) _ after19));
+            stated = eqb-true (length state) (processWords * count) (ask-holds 20 _ (then-first (question20 count state) _ after19));
           }
 
       pub taken-start : {after rolled : List ℕ} → after ≡ startState table count words state

@@ -7,7 +7,7 @@ use lib.Dec.{ltb, eqb}
 use lib.ListN.{length, getD}
 use Rattle.rules.specs.declared.Verdict.{Verdict}
 use Rattle.rules.specs.declared.Verdict.the-variants.{Accepted}
-use Rattle.rules.specs.Process.{doorsAt, latchesAt, depthAt, stackAt, processWords}
+use Rattle.rules.specs.Process.{doorsAt, latchesAt, depthAt, stackAt, processWords, mostProcesses}
 use Rattle.rules.specs.Start.{Started, startSize}
 use Rattle.rules.specs.WellFormed.{wellFormed}
 
@@ -23,7 +23,7 @@ laidWord variables entry given i =
 pub record Startable (table : List ℕ) (count : ℕ) (words state : List ℕ) : Type 0 where
   pub well-formed : wellFormed table ≡ Accepted
   pub some : 1 ≤ count
-  pub few : count ≤ 16
+  pub few : count ≤ mostProcesses
   pub worded : length words ≡ startSize table * count
   pub stated : length state ≡ processWords * count
 

@@ -3,40 +3,49 @@
 ghost use mathlib.Core.Path.{_≡_};
 ghost use Prim.Native.Nat.{ℕ, _+_, _*_, _<_, _≤_};
 ghost use lib.ListN.{length, getD, take, drop};
+ghost use Rattle.rules.specs.Arrivals.{arrivalSize};
+ghost use Rattle.rules.specs.Evaluation.{doors};
+ghost use Rattle.rules.specs.Process.{variablePlaces, processWords};
 ghost use Rattle.rules.specs.Start.{startState, startRoll};
 ghost use Rattle.machine.specs.Layout.{laidWord, Startable};
 use meeting::arrivals::write;
 use rules::Arrival;
 use rules::Status;
+use rules::layout::DEPTH_AT;
+use rules::layout::DOOR_PLACES;
+use rules::layout::DOORS_AT;
+use rules::layout::LATCHES_AT;
+use rules::layout::PROCESS_WORDS;
+use rules::layout::STACK_AT;
 use table::words::body;
 use table::words::header;
 
 fn laid_word(given: &[u32], variables: usize, entry: u32, i: usize) -> u32
-    requires { ⌜ (length (now given) ≡ variables + 12) × (variables ≤ 32) ⌝ }
+    requires { ⌜ (length (now given) ≡ variables + doors) × (variables ≤ variablePlaces) ⌝ }
     ensures { λ r. ⌜ r ≡ laidWord variables entry (now (given .entry)) i ⌝ }
 {
     if i < variables {
         return given[i];
     }
-    if i < 48 {
+    if i < DOORS_AT {
         return 0;
     }
-    if i < 60 {
-        let at = variables + (i - 48);
+    if i < LATCHES_AT {
+        let at = variables + (i - DOORS_AT);
         return given[at];
     }
-    if i == 72 {
+    if i == DEPTH_AT {
         return 1;
     }
-    if i == 73 { entry } else { 0 }
+    if i == STACK_AT { entry } else { 0 }
 }
 
 fn lay_out(words: &mut [u32], given: &[u32], variables: usize, entry: u32)
-    requires { ⌜ (length (now words) ≡ 329) × (length (now given) ≡ variables + 12) × (variables ≤ 32) ⌝ }
-    ensures { λ _. ⌜ ((i : ℕ) → i < 329 → getD (now (words .exit)) i 0 ≡ laidWord variables entry (now (given .entry)) i) ⌝ }
+    requires { ⌜ (length (now words) ≡ processWords) × (length (now given) ≡ variables + doors) × (variables ≤ variablePlaces) ⌝ }
+    ensures { λ _. ⌜ ((i : ℕ) → i < processWords → getD (now (words .exit)) i 0 ≡ laidWord variables entry (now (given .entry)) i) ⌝ }
 {
     let mut i = 0;
-    while i < 329 {
+    while i < PROCESS_WORDS {
         words[i] = laid_word(given, variables, entry, i);
         i += 1;
     }
@@ -60,16 +69,16 @@ pub(crate) fn start_state(table: &[u8], count: u32, words: &[u32], state: &mut [
     let entry = body(table, head.procedures - 1) as u32;
     let mut p = 0;
     while p < count as usize {
-        let at = 329 * p;
-        let end = at + 329;
-        let given = given_to(words, variables + 12, p);
+        let at = PROCESS_WORDS * p;
+        let end = at + PROCESS_WORDS;
+        let given = given_to(words, variables + DOOR_PLACES, p);
         lay_out(&mut state[at..end], given, variables, entry);
         p += 1;
     }
 }
 
 pub(crate) fn start_roll(roll: &mut [u32], count: usize)
-    requires { ⌜ length (now roll) ≡ 4 * count ⌝ }
+    requires { ⌜ length (now roll) ≡ arrivalSize * count ⌝ }
     ensures { λ _. ⌜ now (roll .exit) ≡ startRoll count (now (roll .entry)) ⌝ }
 {
     let mut p = 0;

@@ -1,4 +1,4 @@
-// A team (the paper's site) on plain words: state, 329 words a process; roll, four words a process. "A refusal leaves state,
+// A team (the paper's site) on plain words: state and roll, so many words a process. "A refusal leaves state,
 // roll and any lent output unchanged."
 ghost use mathlib.Core.Path.{_≡_};
 ghost use Prim.Native.Nat.{_*_, _/_};
@@ -17,6 +17,11 @@ use questions::sizes_asked;
 use questions::start_asked;
 use rules::Stepped;
 use rules::Verdict;
+use rules::layout::ARRIVAL_WORDS;
+use rules::layout::LATCH_PLACES;
+use rules::layout::LATCHES_AT;
+use rules::layout::PROCESS_WORDS;
+use rules::layout::SCRATCH_WORDS;
 use scan::well_formed;
 use table::words::header;
 
@@ -55,7 +60,7 @@ pub fn start(
         (started (now (table .entry)) processes (now (words .entry)) (now (state .entry)) (now (roll .entry)))
         r (now (state .exit)) (now (roll .exit)) ⌝ }
 {
-    let mut facts = [0u32; 256];
+    let mut facts = [0u32; SCRATCH_WORDS];
     let formed = well_formed(table, &mut facts);
     match formed {
         Verdict::Refused(refusal) => Verdict::Refused(refusal),
@@ -70,7 +75,7 @@ fn step_sized(table: &[u8], state: &mut [u32], roll: &mut [u32], process: u32) -
     ensures { λ r. ⌜ Gives (stepped (now (table .entry)) (now (state .entry)) (now (roll .entry)) process)
         r (now (state .exit)) (now (roll .exit)) ⌝ }
 {
-    let count = (roll.len() / 4) as u32;
+    let count = (roll.len() / ARRIVAL_WORDS) as u32;
     let head = header(table);
     let asked = process_asked(table, head, state, roll, count, process);
     match asked {
@@ -96,7 +101,7 @@ pub fn step(table: &[u8], state: &mut [u32], roll: &mut [u32], process: u32) -> 
     ensures { λ r. ⌜ Gives (stepped (now (table .entry)) (now (state .entry)) (now (roll .entry)) process)
         r (now (state .exit)) (now (roll .exit)) ⌝ }
 {
-    let mut facts = [0u32; 256];
+    let mut facts = [0u32; SCRATCH_WORDS];
     let formed = well_formed(table, &mut facts);
     match formed {
         Verdict::Refused(refusal) => Stepped::Refused(refusal),
@@ -108,13 +113,13 @@ pub fn step(table: &[u8], state: &mut [u32], roll: &mut [u32], process: u32) -> 
 pub fn latches(state: &[u32], process: usize) -> &[u32]
     ensures { λ r. ⌜ now r ≡ latchesOf (now (state .entry)) process ⌝ }
 {
-    if state.len() % 329 != 0 {
+    if state.len() % PROCESS_WORDS != 0 {
         return &state[0..0];
     }
-    if process >= state.len() / 329 {
+    if process >= state.len() / PROCESS_WORDS {
         return &state[0..0];
     }
-    let from = 329 * process + 60;
-    let to = from + 12;
+    let from = PROCESS_WORDS * process + LATCHES_AT;
+    let to = from + LATCH_PLACES;
     &state[from..to]
 }

@@ -4,7 +4,7 @@ ghost use Prim.Native.Nat.{_+_, _*_, _<_, _≤_};
 ghost use lib.ListN.{length};
 ghost use Rattle.rules.specs.Arrivals.{running, statusAt, withArrival};
 ghost use Rattle.rules.specs.Collective.{arrivalOf};
-ghost use Rattle.rules.specs.Process.{processAt, withProcess, environment, top, advanced};
+ghost use Rattle.rules.specs.Process.{processWords, processAt, withProcess, environment, top, advanced};
 ghost use Rattle.rules.specs.Step.{moved, arrivedAt, stepRunning, stepTaken};
 ghost use Rattle.rules.specs.Table.{statementAt};
 ghost use Rattle.process.specs.Given.{Turn, Topped};
@@ -27,17 +27,19 @@ use rules::Event;
 use rules::Node;
 use rules::Stepped;
 use rules::TeamStatus;
+use rules::layout::DEPTH_AT;
+use rules::layout::PROCESS_WORDS;
 use table::Header;
 use table::words::node_at;
 
 fn advance_in(table: &[u8], header: Header, state: &mut [u32], count: u32, p: usize, node: Node)
-    requires { ⌜ (length (now state) ≡ 329 * count) × (p < count) × Turn (now table) header (processAt (now state) p) p count node ⌝ }
+    requires { ⌜ (length (now state) ≡ processWords * count) × (p < count) × Turn (now table) header (processAt (now state) p) p count node ⌝ }
     ensures { λ _. ⌜ now (state .exit) ≡ withProcess (now (state .entry)) p
         (advanced (now (table .entry)) (environment (processAt (now (state .entry)) p) p count) (processAt (now (state .entry)) p)
         (statementAt (now (table .entry)) (top (processAt (now (state .entry)) p)))) ⌝ }
 {
-    let at = 329 * p;
-    let end = at + 329;
+    let at = PROCESS_WORDS * p;
+    let end = at + PROCESS_WORDS;
     advance(table, header, &mut state[at..end], p as u32, count, node);
 }
 
@@ -60,7 +62,7 @@ fn move_on(
         r (now (state .exit)) (now (roll .exit)) ⌝ }
 {
     advance_in(table, header, state, count, p, node);
-    let depth = 329 * p + 72;
+    let depth = PROCESS_WORDS * p + DEPTH_AT;
     if state[depth] != 0 {
         return Stepped::Taken(Answer {
             event: Event::Moved,

@@ -1,5 +1,6 @@
 -- `machine::start::lay_out` meets its contract. The words passed are laid out.
 use Rattle.machine.specs.Layout.{laidWord}
+use Rattle.rules.specs.Process.{processWords}
 use lib.Seq.{getD-set-same, getD-set-other}
 use lib.ListN.{length, getD, length-set}
 use native.Mathlib.Omega.{arith}
@@ -11,10 +12,10 @@ use Rattle.machine.proofs.start.lay_out.Tie as tie
 
 abbrev Inv-loop : tie.InvT-loop
 Inv-loop words₀ given variables entry i₀ words i =
-    (i ≤ 329) × (length words ≡ 329) × ((k : ℕ) → k < i → getD words k 0 ≡ laidWord variables entry given k)
+    (i ≤ processWords) × (length words ≡ processWords) × ((k : ℕ) → k < i → getD words k 0 ≡ laidWord variables entry given k)
 
 abbrev μ-loop : tie.MeasureT-loop
-μ-loop words₀ given variables entry i₀ words i = 329 - i
+μ-loop words₀ given variables entry i₀ words i = processWords - i
 
 loop-holds : tie.Need-loop-holds Inv-loop μ-loop
 loop-holds c = (omega arith, c .before .before .pre .0, λ k l. absurd (omega arith))

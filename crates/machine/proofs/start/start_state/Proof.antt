@@ -9,7 +9,8 @@ use Rattle.rules.proofs.Formed.{formed}
 use Rattle.rules.specs.Table
 use Rattle.rules.specs.Table.{procedures, mainBody, body}
 use Rattle.rules.specs.Start.{startSize, startProcess, startWords, startState}
-use Rattle.rules.specs.Process.{eachProcess, withProcess}
+use Rattle.rules.specs.Evaluation.{doors}
+use Rattle.rules.specs.Process.{processWords, eachProcess, withProcess}
 use denote.Ref.{now}
 use lib.ListN.{length, take, drop}
 use native.Mathlib.Numerals.{add-one}
@@ -40,14 +41,14 @@ laid-keeps {table} {count} {words} s q earlier l h =
 
 still-sized : {table : List ℕ} {count : ℕ} {words state₀ : List ℕ} {v entry : ℕ} {state : List ℕ} {p : ℕ}
     → Startable table count words state₀ → Laying table count words state₀ v entry state p
-    → length state ≡ 329 * count
+    → length state ≡ processWords * count
 still-sized {table} {count} {words} {state₀} {p = p} s i =
     ap length (i .reached)
     ∙ each-below-length (laid-for table words) state₀ count (laid-keeps s) (s .stated) p (i .within)
     ∙ s .stated
 
 given-is : (table words : List ℕ) (p : ℕ) {v : ℕ} {given : List ℕ} → v ≡ Table.variables table
-    → given ≡ take (v + 12) (drop ((v + 12) * p) words) → given ≡ startWords table words p
+    → given ≡ take (v + doors) (drop ((v + doors) * p) words) → given ≡ startWords table words p
 unfolding startWords startSize
 given-is table words p e g = rw (← e) g
 
@@ -170,7 +171,7 @@ loop-again c =
     let last = lay-out .last .0 in
     let inv = loop .inv in
     let mine = given-is table words p (inv .counted) (past .given-to .ensures) in
-    let sized : length last ≡ 329 =
+    let sized : length last ≡ processWords =
     lay-out .kept .0
     ∙ ap length (lent state p)
     ∙ process-length state count p (still-sized pre inv) (loop-test .taken) in

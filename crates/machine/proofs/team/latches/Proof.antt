@@ -1,4 +1,5 @@
 -- `machine::team::latches` meets its contract.
+use Rattle.rules.specs.Process.{latchPlaces, latchesAt, processWords}
 use Rattle.rules.specs.Start.{latchesOf}
 use borrow.Author.Tests.{eq-eqb, ne-eqb, lt-ltb, le-ltb}
 use native.Mathlib.Omega.{arith}
@@ -59,7 +60,8 @@ returns-3 : tie.Need-returns-3
 unfolding latchesOf
 returns-3 c =
     let args = c .before .before .before .args in
-    let size : 329 * args .process + 60 + 12 - (329 * args .process + 60) ≡ 12 = omega arith in
+    let from = processWords * args .process + latchesAt in
+    let size : from + latchPlaces - from ≡ latchPlaces = omega arith in
     rw (size, eq-eqb _ _ (c .before .before .if1 .left), lt-ltb _ _ (c .before .if2 .left))
 
 pub latches-spec : {M : Type 1} → statement M

@@ -5,7 +5,7 @@ use Rattle.meeting.proofs.ArrivalMoves.{running-at, end-running}
 use Rattle.rules.proofs.StackLaws.{advanced-length}
 use Rattle.rules.proofs.ProcessLaws.{process-length}
 use Rattle.rules.specs.Table.{statementAt}
-use Rattle.rules.specs.Process.{processAt, environment, top, advanced, depth}
+use Rattle.rules.specs.Process.{depthAt, processWords, processAt, environment, top, advanced, depth}
 use Rattle.rules.specs.Arrivals.{withArrival}
 use Prim.Native.Nat.{ℕ, _+_, _*_}
 use lib.ListN.{length, getD}
@@ -27,14 +27,14 @@ moved c =
 
 -- the depth read off the state is theirs
 left : (c : tie.After-advance-in)
-    → getD (c .advance-in .last .1 .1 .0) (329 * start c .args .p + 72) 0 ≡ depth (moved c)
+    → getD (c .advance-in .last .1 .1 .0) (processWords * start c .args .p + depthAt) 0 ≡ depth (moved c)
 left c =
     let args = start c .args in
     let given = start c .pre in
-    let sized : length (moved c) ≡ 329 =
+    let sized : length (moved c) ≡ processWords =
     advanced-length (args .table .now) _ (processAt (args .state .now) (args .p)) _
     ∙ process-length (args .state .now) (args .count) (args .p) (given .0 .stated) (given .1) in
-    ap (λ l. getD l (329 * args .p + 72) 0) (c .advance-in .ensures)
+    ap (λ l. getD l (processWords * args .p + depthAt) 0) (c .advance-in .ensures)
     ∙ depth-with (args .state .now) (moved c) (args .count) (args .p) (given .0 .stated) sized (given .1)
 
 advance-in-requires : tie.Need-advance-in-requires
