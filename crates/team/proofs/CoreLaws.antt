@@ -9,16 +9,17 @@ use Rattle.rules.specs.Start.{Started}
 use Rattle.rules.specs.Step.{Outcome}
 use Rattle.machine.specs.Layout.{Starts}
 use Rattle.machine.specs.Outcomes.{Gives}
+use Rattle.rules.specs.Arrivals.{arrivalSize}
 use Rattle.team.specs.Held.{StartsLent, GivesLent}
 
-pub starts-lent : (after : List ℕ → Started) (lent : List ℕ) (n m : ℕ) (answer : Verdict) (state roll : List ℕ) → n ≡ m → Starts (after (take (4 * n) lent)) answer state roll
-    → StartsLent after lent m (record { answer = answer; roll = roll ++ drop (4 * n) lent }) state
+pub starts-lent : (after : List ℕ → Started) (lent : List ℕ) (n m : ℕ) (answer : Verdict) (state roll : List ℕ) → n ≡ m → Starts (after (take (arrivalSize * n) lent)) answer state roll
+    → StartsLent after lent m (record { answer = answer; roll = roll ++ drop (arrivalSize * n) lent }) state
 starts-lent after lent n m answer state roll e said =
-    subst (λ (k : ℕ). StartsLent after lent k (record { answer = answer; roll = roll ++ drop (4 * n) lent }) state) e
-    (record { answered = said .answered; left = said .left; written = ap (λ (l : List ℕ). l ++ drop (4 * n) lent) (said .written) })
+    subst (λ (k : ℕ). StartsLent after lent k (record { answer = answer; roll = roll ++ drop (arrivalSize * n) lent }) state) e
+    (record { answered = said .answered; left = said .left; written = ap (λ (l : List ℕ). l ++ drop (arrivalSize * n) lent) (said .written) })
 
-pub gives-lent : (after : List ℕ → Outcome) (lent : List ℕ) (n m : ℕ) (answer : Stepped) (state roll : List ℕ) → n ≡ m → Gives (after (take (4 * n) lent)) answer state roll
-    → GivesLent after lent m (record { answer = answer; roll = roll ++ drop (4 * n) lent }) state
+pub gives-lent : (after : List ℕ → Outcome) (lent : List ℕ) (n m : ℕ) (answer : Stepped) (state roll : List ℕ) → n ≡ m → Gives (after (take (arrivalSize * n) lent)) answer state roll
+    → GivesLent after lent m (record { answer = answer; roll = roll ++ drop (arrivalSize * n) lent }) state
 gives-lent after lent n m answer state roll e said =
-    subst (λ (k : ℕ). GivesLent after lent k (record { answer = answer; roll = roll ++ drop (4 * n) lent }) state) e
-    (record { answered = said .answered; left = said .left; written = ap (λ (l : List ℕ). l ++ drop (4 * n) lent) (said .written) })
+    subst (λ (k : ℕ). GivesLent after lent k (record { answer = answer; roll = roll ++ drop (arrivalSize * n) lent }) state) e
+    (record { answered = said .answered; left = said .left; written = ap (λ (l : List ℕ). l ++ drop (arrivalSize * n) lent) (said .written) })

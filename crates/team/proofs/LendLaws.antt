@@ -10,17 +10,17 @@ use borrow.Author.Tests.{lt-ltb, le-ltb}
 use lib.ListN.{length, getD, set, take, drop, replicate, length-set, drop-of-length-le}
 use lib.Seq.{set-at, take-at, drop-at, take-suc, take-all, append-snoc, length-take-le, getD-set-same, getD-set-other, getD-take, ext-getD}
 use Rattle.rules.specs.declared.Arrival.{Arrival}
-use Rattle.rules.specs.Arrivals.{runningRecord, withArrival}
+use Rattle.rules.specs.Arrivals.{arrivalSize, runningRecord, withArrival}
 use Rattle.meeting.specs.Meeting.{arrivalAt}
-use Rattle.team.specs.Roll.{atMost, rollWords, lentRecords, loaded, saved}
+use Rattle.team.specs.Roll.{mostLent, lentWords, atMost, rollWords, lentRecords, loaded, saved}
 use Rattle.team.proofs.RollLaws.{words-length, words-append, words-set, words-at}
 
--- what is lent is there, and is at most 17 records
+-- what is lent is there, and is at most the most that can be
 pub lent-within : (n : ℕ) → lentRecords n ≤ n
-lent-within n = elim (decLt n 17) [ yes l ↦ simp (lt-ltb n 17 l) (omega arith) | no m ↦ simp (le-ltb n 17 (omega arith)) (omega arith) ]
+lent-within n = elim (decLt n mostLent) [ yes l ↦ simp (lt-ltb n mostLent l) (omega arith) | no m ↦ simp (le-ltb n mostLent (omega arith)) (omega arith) ]
 
-pub lent-few : (n : ℕ) → lentRecords n ≤ 17
-lent-few n = elim (decLt n 17) [ yes l ↦ simp (lt-ltb n 17 l) (omega arith) | no m ↦ simp (le-ltb n 17 (omega arith)) (omega arith) ]
+pub lent-few : (n : ℕ) → lentRecords n ≤ mostLent
+lent-few n = elim (decLt n mostLent) [ yes l ↦ simp (lt-ltb n mostLent l) (omega arith) | no m ↦ simp (le-ltb n mostLent (omega arith)) (omega arith) ]
 
 -- as much of a list of the limit's length
 pub take-most : (n limit : ℕ) (xs : List Arrival) → length xs ≡ limit → take (atMost n limit) xs ≡ take n xs
@@ -59,28 +59,28 @@ module _ (n limit : ℕ) (xs ys : List Arrival) (sized : length xs ≡ limit) (s
       sym (drop-most n limit (ys ++ drop (atMost n limit) xs) replaced-length) ∙ drop-at ys (drop (atMost n limit) xs) (atMost n limit) at-seam ∙ drop-most n limit xs sized
 
 -- nothing is loaded yet; one record more
-pub loaded-none : (roll : List Arrival) → loaded roll 0 ≡ replicate 68 0
+pub loaded-none : (roll : List Arrival) → loaded roll 0 ≡ replicate lentWords 0
 unfolding loaded rollWords
 loaded-none roll = refl
 
-pub loaded-next : (roll : List Arrival) (p : ℕ) → p < length roll → p < 17 → loaded roll (p + 1) ≡ withArrival (loaded roll p) p (getD roll p runningRecord)
+pub loaded-next : (roll : List Arrival) (p : ℕ) → p < length roll → p < mostLent → loaded roll (p + 1) ≡ withArrival (loaded roll p) p (getD roll p runningRecord)
 unfolding loaded
 loaded-next roll p l few =
     let r : Arrival = getD roll p runningRecord in
-    let left : 17 - p ≡ suc (17 - (p + 1)) = omega arith in
+    let left : mostLent - p ≡ suc (mostLent - (p + 1)) = omega arith in
     let at : length (take p roll) ≡ p = length-take-le p roll (omega arith) in
-    sym (words-set (take p roll ++ replicate (17 - p) runningRecord) p r
+    sym (words-set (take p roll ++ replicate (mostLent - p) runningRecord) p r
     ∙ ap (λ (n : ℕ). rollWords (set (take p roll ++ replicate n runningRecord) p r)) left
-    ∙ ap rollWords (set-at (take p roll) runningRecord (replicate (17 - (p + 1)) runningRecord) r p at)
-    ∙ ap rollWords (sym (append-snoc (take p roll) r (replicate (17 - (p + 1)) runningRecord)))
-    ∙ ap (λ (t : List Arrival). rollWords (t ++ replicate (17 - (p + 1)) runningRecord)) (sym (take-suc roll p runningRecord l) ∙ ap (λ (n : ℕ). take n roll) (sym (add-one p))))
+    ∙ ap rollWords (set-at (take p roll) runningRecord (replicate (mostLent - (p + 1)) runningRecord) r p at)
+    ∙ ap rollWords (sym (append-snoc (take p roll) r (replicate (mostLent - (p + 1)) runningRecord)))
+    ∙ ap (λ (t : List Arrival). rollWords (t ++ replicate (mostLent - (p + 1)) runningRecord)) (sym (take-suc roll p runningRecord l) ∙ ap (λ (n : ℕ). take n roll) (sym (add-one p))))
 
 -- the words of the records that are loaded stand first, and each can be read
-pub loaded-words : (roll : List Arrival) (n : ℕ) → n ≤ length roll → take (4 * n) (loaded roll n) ≡ rollWords (take n roll)
+pub loaded-words : (roll : List Arrival) (n : ℕ) → n ≤ length roll → take (arrivalSize * n) (loaded roll n) ≡ rollWords (take n roll)
 unfolding loaded
 loaded-words roll n l =
-    ap (take (4 * n)) (words-append (take n roll) (replicate (17 - n) runningRecord))
-    ∙ take-at (rollWords (take n roll)) (rollWords (replicate (17 - n) runningRecord)) (4 * n) (words-length (take n roll) ∙ ap (λ (k : ℕ). 4 * k) (length-take-le n roll l))
+    ap (take (arrivalSize * n)) (words-append (take n roll) (replicate (mostLent - n) runningRecord))
+    ∙ take-at (rollWords (take n roll)) (rollWords (replicate (mostLent - n) runningRecord)) (arrivalSize * n) (words-length (take n roll) ∙ ap (λ (k : ℕ). arrivalSize * k) (length-take-le n roll l))
 
 -- nothing is saved yet; one record more
 pub saved-none : (words : List ℕ) (roll : List Arrival) → saved words 0 roll ≡ roll

@@ -9,11 +9,11 @@ use lib.Seq.{sets, set-out, getD-append-add, ext-getD}
 use Rattle.rules.specs.declared.Arrival.{Arrival}
 use Rattle.rules.specs.declared.Status.{Status}
 use Rattle.rules.specs.declared.Status.the-variants.{Running, Waiting, Ended}
-use Rattle.rules.specs.Arrivals.{statusNumber, arrivalWords, runningRecord, withArrival, statusAt, arrivalNode, arrivalValue, arrivalSource}
+use Rattle.rules.specs.Arrivals.{arrivalSize, statusNumber, arrivalWords, runningRecord, withArrival, statusAt, arrivalNode, arrivalValue, arrivalSource}
 use Rattle.meeting.specs.Meeting.{statusOf, arrivalAt}
 use Rattle.team.specs.Roll.{rollWords}
 
-pub words-length : (roll : List Arrival) → length (rollWords roll) ≡ 4 * length roll
+pub words-length : (roll : List Arrival) → length (rollWords roll) ≡ arrivalSize * length roll
 unfolding rollWords
 words-length [] = refl
 words-length (a ∷ roll) = simp (length-append, words-length roll) (omega arith)
@@ -43,12 +43,12 @@ sets-out l i (v ∷ vs) out = ap (λ (k : List ℕ). sets k (suc i) vs) (set-out
 -- another record p
 pub words-set : (roll : List Arrival) (p : ℕ) (a : Arrival) → withArrival (rollWords roll) p a ≡ rollWords (set roll p a)
 unfolding withArrival rollWords
-words-set [] p a = sets-out [] (4 * p) (arrivalWords a) (omega arith)
+words-set [] p a = sets-out [] (arrivalSize * p) (arrivalWords a) (omega arith)
 words-set (r ∷ roll) zero a = refl
 words-set (r ∷ roll) (suc p) a =
-    let e : 4 * suc p ≡ 4 + 4 * p = omega arith in
+    let e : arrivalSize * suc p ≡ arrivalSize + arrivalSize * p = omega arith in
     ap (λ (i : ℕ). sets (arrivalWords r ++ rollWords roll) i (arrivalWords a)) e
-    ∙ sets-behind (arrivalWords r) (rollWords roll) (4 * p) (arrivalWords a)
+    ∙ sets-behind (arrivalWords r) (rollWords roll) (arrivalSize * p) (arrivalWords a)
     ∙ ap (λ (w : List ℕ). arrivalWords r ++ w) (words-set roll p a)
 
 status-back : (s : Status) → statusOf (statusNumber s) ≡ s
@@ -57,23 +57,23 @@ status-back Waiting = refl
 status-back Ended = refl
 
 -- record p is read back
-word-at : (roll : List Arrival) (rest : List ℕ) (p k : ℕ) → p < length roll → k < 4 → getD (rollWords roll ++ rest) (4 * p + k) 0 ≡ getD (arrivalWords (getD roll p runningRecord)) k 0
+word-at : (roll : List Arrival) (rest : List ℕ) (p k : ℕ) → p < length roll → k < arrivalSize → getD (rollWords roll ++ rest) (arrivalSize * p + k) 0 ≡ getD (arrivalWords (getD roll p runningRecord)) k 0
 unfolding rollWords
 word-at [] rest p k l h = absurd (omega arith)
 word-at (r ∷ roll) rest zero k l h =
-    let e : 4 * zero + k ≡ k = omega arith in
+    let e : arrivalSize * zero + k ≡ k = omega arith in
     ap (λ (i : ℕ). getD ((arrivalWords r ++ rollWords roll) ++ rest) i 0) e ∙ List·getD-append (arrivalWords r) (rollWords roll ++ rest) 0 k h
 word-at (r ∷ roll) rest (suc p) k l h =
-    let e : 4 * suc p + k ≡ 4 + (4 * p + k) = omega arith in
+    let e : arrivalSize * suc p + k ≡ arrivalSize + (arrivalSize * p + k) = omega arith in
     ap (λ (i : ℕ). getD ((arrivalWords r ++ rollWords roll) ++ rest) i 0) e
-    ∙ getD-append-add (arrivalWords r) (rollWords roll ++ rest) (4 * p + k) 0
+    ∙ getD-append-add (arrivalWords r) (rollWords roll ++ rest) (arrivalSize * p + k) 0
     ∙ word-at roll rest p k (omega arith) h
 
 pub words-at : (roll : List Arrival) (rest : List ℕ) (p : ℕ) → p < length roll → arrivalAt (rollWords roll ++ rest) p ≡ getD roll p runningRecord
 unfolding arrivalAt statusAt arrivalNode arrivalValue arrivalSource
 words-at roll rest p l =
-    let e : 4 * p ≡ 4 * p + 0 = omega arith in
-    let s : getD (rollWords roll ++ rest) (4 * p) 0 ≡ statusNumber (getD roll p runningRecord .status)
+    let e : arrivalSize * p ≡ arrivalSize * p + 0 = omega arith in
+    let s : getD (rollWords roll ++ rest) (arrivalSize * p) 0 ≡ statusNumber (getD roll p runningRecord .status)
     = ap (λ (i : ℕ). getD (rollWords roll ++ rest) i 0) e ∙ word-at roll rest p 0 l (omega arith) in
     λ i. record {
       status = (ap statusOf s ∙ status-back (getD roll p runningRecord .status)) i;
@@ -85,6 +85,6 @@ words-at roll rest p l =
 -- the words tell the records
 pub words-injective : (xs ys : List Arrival) → rollWords xs ≡ rollWords ys → xs ≡ ys
 words-injective xs ys e =
-    let n : 4 * length xs ≡ 4 * length ys = sym (words-length xs) ∙ ap length e ∙ words-length ys in
+    let n : arrivalSize * length xs ≡ arrivalSize * length ys = sym (words-length xs) ∙ ap length e ∙ words-length ys in
     ext-getD runningRecord xs ys (omega arith)
     (λ p l. sym (words-at xs [] p l) ∙ ap (λ (w : List ℕ). arrivalAt (w ++ []) p) e ∙ words-at ys [] p (omega arith))

@@ -3,7 +3,7 @@ use mathlib.Core.Bool.{true, false, cond}
 use mathlib.Core.List.{List}
 use mathlib.Core.Logic.{⊎-elim}
 use mathlib.Core.Path.{_≡_, refl, ap, sym, _∙_}
-use Prim.Native.Nat.{ℕ, _<_}
+use Prim.Native.Nat.{ℕ, _*_, _<_}
 use lib.Dec.{eqb}
 use lib.ListN.{length}
 use Rattle.rules.specs.declared.Refusal.{Refusal}
@@ -11,10 +11,10 @@ use Rattle.rules.specs.declared.Verdict.{Verdict}
 use Rattle.rules.specs.declared.Verdict.the-variants.{Accepted, Refused}
 use Rattle.rules.specs.declared.Stepped.the-variants.{Refused as NotTaken}
 use Rattle.rules.specs.Answers.{_then_, refused}
-use Rattle.rules.specs.Arrivals.{running, waiting, runningRecord, endedRecord, withArrival, statusAt, allAtOneNode}
+use Rattle.rules.specs.Arrivals.{arrivalSize, running, waiting, runningRecord, endedRecord, withArrival, statusAt, allAtOneNode}
 use Rattle.rules.specs.Collective.{arrivalOf, completedState, releasedRoll}
 use Rattle.rules.specs.Evaluation.{Environment}
-use Rattle.rules.specs.Process.{environment, processAt, depth, top, advanced}
+use Rattle.rules.specs.Process.{mostProcesses, environment, processAt, depth, top, advanced}
 use Rattle.rules.proofs.ChoiceLaws.{bool-cases}
 use Rattle.rules.specs.Start.{question18, question19, question20, startVerdict, startRoll, startedBy, started}
 use Rattle.rules.specs.Step.{Outcome, processesIn, question22, question23, question24, stepVerdict, moved, completed, arrivedAt, stepRunning, stepTaken, steppedBy, stepped}
@@ -30,7 +30,7 @@ module _ (table : List ℕ) (count : ℕ) (words state : List ℕ) where
       let last : (r : Refusal) × (refused 21 0 ≡ Refused r) = (record { number = 21; place = 0 }, refl) in
       then-refused (wellFormed table) _ (then-refused (question18 count) _ (then-refused (question19 table count words) _ (then-refused (question20 count state) _ last)))
 
-  long-started : (roll : List ℕ) → 64 < length roll → started table count words state roll ≡ record { answer = Refused (long-start .0); state = state; roll = roll }
+  long-started : (roll : List ℕ) → arrivalSize * mostProcesses < length roll → started table count words state roll ≡ record { answer = Refused (long-start .0); state = state; roll = roll }
   unfolding started startedBy startVerdict
   long-started roll l =
       ap (λ (v : Verdict). startedBy (wellFormed table then question18 count then question19 table count words then question20 count state then v) table count words state roll) (long-21 count roll l)
@@ -59,7 +59,7 @@ module _ (table state : List ℕ) (p : ℕ) where
       let last : (r : Refusal) × (refused 21 0 ≡ Refused r) = (record { number = 21; place = 0 }, refl) in
       then-refused (wellFormed table) _ last
 
-  long-stepped : (roll : List ℕ) → 64 < length roll → stepped table state roll p ≡ record { answer = NotTaken (long-step .0); state = state; roll = roll }
+  long-stepped : (roll : List ℕ) → arrivalSize * mostProcesses < length roll → stepped table state roll p ≡ record { answer = NotTaken (long-step .0); state = state; roll = roll }
   unfolding stepped steppedBy stepVerdict
   long-stepped roll l =
       ap (λ (v : Verdict). steppedBy (wellFormed table then v then question20 (processesIn roll) state then question22 (processesIn roll) p

@@ -24,7 +24,7 @@ use Rattle.rules.specs.declared.Arrival.{Arrival}
 use Rattle.rules.specs.Arrivals.{withArrival}
 use Rattle.rules.proofs.Arrival as T
 use Rattle.meeting.specs.Meeting.{arrivalAt}
-use Rattle.team.specs.Roll.{atMost}
+use Rattle.team.specs.Roll.{mostLent, atMost}
 use Rattle.team.proofs.PlainCalls.{Called, calls-plain}
 use Rattle.team.proofs.Rows.{Words, wordsVal, words-tell, words-make, recordVal, record-tell, record-make}
 use Rattle.team.proofs.at_most as at-most
@@ -61,12 +61,12 @@ module _ {M : Type 1} (𝓤 : URA M) (H : Heap 𝓤) (A : Atoms 𝓤) (mem : Mem
         qed W [] ∵ nothing ! $ owned ! usize (Is usize) (uint-makes 𝓤 H A W w64) limit _ (refl, room) $ fjoin ! $ owned ! usize (Is usize) (uint-makes 𝓤 H A W w64) n _ (refl, fits) $ fjoin ! $
         nothing ! $ join ! $ nothing ! $ move ! (1 ∷ 0 ∷ []) $ done !
 
-    placed-asked : (words : List ℕ) (p : ℕ) (arrival : Arrival) → Is Words words (wordsVal words ∷ []) → p < 17 → p < 2 ^ 64 → Is T.the-row arrival (recordVal arrival ∷ []) → ent 𝓤 (emp 𝓤) (Placed .pre (to-placed words p arrival))
+    placed-asked : (words : List ℕ) (p : ℕ) (arrival : Arrival) → Is Words words (wordsVal words ∷ []) → p < mostLent → p < 2 ^ 64 → Is T.the-row arrival (recordVal arrival ∷ []) → ent 𝓤 (emp 𝓤) (Placed .pre (to-placed words p arrival))
     placed-asked words p arrival ws few fits is =
         qed W [] ∵ nothing ! $ owned ! T.the-row (Is T.the-row) (record-make 𝓤 H A W) arrival _ is $ fjoin ! $ owned ! usize (Is usize) (uint-makes 𝓤 H A W w64) p _ (refl, fits) $ fjoin ! $
         owned ! Words (Is Words) (words-make 𝓤 H A W) words _ ws $ fjoin ! $ nothing ! $ join ! $ says ! few $ done !
 
-    record-asked : (words : List ℕ) (p : ℕ) → Is Words words (wordsVal words ∷ []) → p < 17 → p < 2 ^ 64 → ent 𝓤 (emp 𝓤) (RecordAt .pre (to-record words p))
+    record-asked : (words : List ℕ) (p : ℕ) → Is Words words (wordsVal words ∷ []) → p < mostLent → p < 2 ^ 64 → ent 𝓤 (emp 𝓤) (RecordAt .pre (to-record words p))
     record-asked words p ws few fits =
         qed W [] ∵ nothing ! $ owned ! usize (Is usize) (uint-makes 𝓤 H A W w64) p _ (refl, fits) $ fjoin ! $ owned ! Words (Is Words) (words-make 𝓤 H A W) words _ ws $ fjoin ! $ nothing ! $ join ! $ says ! few $ done !
 
@@ -80,7 +80,7 @@ module _ {M : Type 1} {𝓤 : URA M} {H : Heap 𝓤} {A : Atoms 𝓤} {K : Type 
       (vint w64) (uint-tells w64) (atMost n limit) (λ r ws. id⊢ 𝓤 _) os (λ is. k (is .1))
 
   pub calls-placed : K → (mem : Memory → SProp 𝓤) (run : Routine → Fun 𝓤) → FmC 𝓤 H (W .laws) C → Triple 𝓤 (C #team·placed) (Placed 𝓤 H A mem run) → (words : List ℕ) (p : ℕ) (arrival : Arrival)
-      → Is Words words (wordsVal words ∷ []) → p < 17 → p < 2 ^ 64 → Is T.the-row arrival (recordVal arrival ∷ [])
+      → Is Words words (wordsVal words ∷ []) → p < mostLent → p < 2 ^ 64 → Is T.the-row arrival (recordVal arrival ∷ [])
       → Opds K W (raw (Placed 𝓤 H A mem run .pre (to-placed 𝓤 H A mem run words p arrival)) ∷ Γ) E xs (wordsVal words ∷ vint w64 p ∷ recordVal arrival ∷ [])
       → (Is Words (withArrival words p arrival) (wordsVal (withArrival words p arrival) ∷ []) → Seq K W Γ (lands C Λ E d (wordsVal (withArrival words p arrival)) rest q))
       → Seq K W Γ (runs C Λ E (seq (call #team·placed xs d) rest) q)
@@ -89,7 +89,7 @@ module _ {M : Type 1} {𝓤 : URA M} {H : Heap 𝓤} {A : Atoms 𝓤} {K : Type 
       wordsVal words-tell (withArrival words p arrival) (λ r ws. id⊢ 𝓤 _) os k
 
   pub calls-record : K → (mem : Memory → SProp 𝓤) (run : Routine → Fun 𝓤) → FmC 𝓤 H (W .laws) C → Triple 𝓤 (C #team·record-at) (RecordAt 𝓤 H A mem run) → (words : List ℕ) (p : ℕ)
-      → Is Words words (wordsVal words ∷ []) → p < 17 → p < 2 ^ 64
+      → Is Words words (wordsVal words ∷ []) → p < mostLent → p < 2 ^ 64
       → Opds K W (raw (RecordAt 𝓤 H A mem run .pre (to-record 𝓤 H A mem run words p)) ∷ Γ) E xs (wordsVal words ∷ vint w64 p ∷ [])
       → (Is T.the-row (arrivalAt words p) (recordVal (arrivalAt words p) ∷ []) → Seq K W Γ (lands C Λ E d (recordVal (arrivalAt words p)) rest q))
       → Seq K W Γ (runs C Λ E (seq (call #team·record-at xs d) rest) q)

@@ -9,13 +9,20 @@ ghost use Rattle.rules.specs.Step.{stepped};
 ghost use Rattle.meeting.specs.Meeting.{arrivalAt};
 ghost use Rattle.machine.specs.Layout.{Starts};
 ghost use Rattle.machine.specs.Outcomes.{Gives};
-ghost use Rattle.team.specs.Roll.{atMost, rollWords, lentRecords, loaded, saved};
+ghost use Rattle.team.specs.Roll.{mostLent, atMost, rollWords, lentRecords, loaded, saved};
 ghost use Rattle.team.specs.Held.{StartsLent, GivesLent, startRecords, stepRecords};
 use rules::Arrival;
 use rules::Stepped;
 use rules::Verdict;
+use rules::layout::ARRIVAL_WORDS;
+use rules::layout::MOST_PROCESSES;
 // A host sees a process's latches through the team.
 pub use machine::team::latches;
+
+// Of a roll of too many records, one more than the most is lent to the core.
+const MOST_LENT: usize = MOST_PROCESSES + 1;
+
+const LENT_WORDS: usize = ARRIVAL_WORDS * MOST_LENT;
 
 fn at_most(n: usize, limit: usize) -> usize
     ensures { λ r. ⌜ r ≡ atMost n limit ⌝ }
@@ -23,8 +30,8 @@ fn at_most(n: usize, limit: usize) -> usize
     if n < limit { n } else { limit }
 }
 
-fn placed(words: [u32; 68], p: usize, arrival: Arrival) -> [u32; 68]
-    requires { ⌜ p < 17 ⌝ }
+fn placed(words: [u32; LENT_WORDS], p: usize, arrival: Arrival) -> [u32; LENT_WORDS]
+    requires { ⌜ p < mostLent ⌝ }
     ensures { λ r. ⌜ r ≡ withArrival words p arrival ⌝ }
 {
     let mut after = words;
@@ -32,19 +39,19 @@ fn placed(words: [u32; 68], p: usize, arrival: Arrival) -> [u32; 68]
     after
 }
 
-fn record_at(words: [u32; 68], p: usize) -> Arrival
-    requires { ⌜ p < 17 ⌝ }
+fn record_at(words: [u32; LENT_WORDS], p: usize) -> Arrival
+    requires { ⌜ p < mostLent ⌝ }
     ensures { λ r. ⌜ r ≡ arrivalAt words p ⌝ }
 {
     meeting::arrivals::read(&words, p)
 }
 
-// The words of the roll's first records. A roll of more than 16 is refused for its length: 17 records say as much.
-fn load(roll: &[Arrival]) -> [u32; 68]
+// The words of the roll's first records. A roll of too many is refused for its length: those lent say as much.
+fn load(roll: &[Arrival]) -> [u32; LENT_WORDS]
     ensures { λ r. ⌜ r ≡ loaded (now (roll .entry)) (lentRecords (length (now (roll .entry)))) ⌝ }
 {
-    let mut words = [0; 68];
-    let count = at_most(roll.len(), 17);
+    let mut words = [0; LENT_WORDS];
+    let count = at_most(roll.len(), MOST_LENT);
     let mut p = 0;
     while p < count {
         words = placed(words, p, roll[p]);
@@ -53,10 +60,10 @@ fn load(roll: &[Arrival]) -> [u32; 68]
     words
 }
 
-fn save(roll: &mut [Arrival], words: [u32; 68])
+fn save(roll: &mut [Arrival], words: [u32; LENT_WORDS])
     ensures { λ _. ⌜ now (roll .exit) ≡ saved words (lentRecords (length (now (roll .entry)))) (now (roll .entry)) ⌝ }
 {
-    let count = at_most(roll.len(), 17);
+    let count = at_most(roll.len(), MOST_LENT);
     let mut p = 0;
     while p < count {
         roll[p] = record_at(words, p);
@@ -67,7 +74,7 @@ fn save(roll: &mut [Arrival], words: [u32; 68])
 // A start's answer, and the words lent to it as it leaves them.
 struct StartAnswer {
     answer: Verdict,
-    roll: [u32; 68],
+    roll: [u32; LENT_WORDS],
 }
 
 // The core's start on the words of `records` records.
@@ -76,14 +83,14 @@ fn start_words(
     processes: u32,
     words: &[u32],
     state: &mut [u32],
-    lent: [u32; 68],
+    lent: [u32; LENT_WORDS],
     records: usize,
 ) -> StartAnswer
     ensures { λ r. ⌜ StartsLent (started (now (table .entry)) processes (now (words .entry)) (now (state .entry)))
         lent (lentRecords records) r (now (state .exit)) ⌝ }
 {
     let mut roll = lent;
-    let end = 4 * at_most(records, 17);
+    let end = ARRIVAL_WORDS * at_most(records, MOST_LENT);
     let answer = machine::team::start(table, processes, words, state, &mut roll[..end]);
     StartAnswer { answer, roll }
 }
@@ -110,14 +117,14 @@ pub fn start(
 // A step's answer, and the words lent to it as it leaves them.
 struct StepAnswer {
     answer: Stepped,
-    roll: [u32; 68],
+    roll: [u32; LENT_WORDS],
 }
 
 // The core's step on the words of `records` records.
 fn step_words(
     table: &[u8],
     state: &mut [u32],
-    lent: [u32; 68],
+    lent: [u32; LENT_WORDS],
     records: usize,
     process: u32,
 ) -> StepAnswer
@@ -125,7 +132,7 @@ fn step_words(
         lent (lentRecords records) r (now (state .exit)) ⌝ }
 {
     let mut roll = lent;
-    let end = 4 * at_most(records, 17);
+    let end = ARRIVAL_WORDS * at_most(records, MOST_LENT);
     let answer = machine::team::step(table, state, &mut roll[..end], process);
     StepAnswer { answer, roll }
 }
@@ -145,10 +152,10 @@ pub fn step(table: &[u8], state: &mut [u32], roll: &mut [Arrival], process: u32)
 // A start's answer, and the team's records as it leaves them.
 pub struct StartRecords {
     pub answer: Verdict,
-    pub roll: [Arrival; 16],
+    pub roll: [Arrival; MOST_PROCESSES],
 }
 
-fn started_records(answer: Verdict, roll: [Arrival; 16]) -> StartRecords
+fn started_records(answer: Verdict, roll: [Arrival; MOST_PROCESSES]) -> StartRecords
     ensures { λ r. ⌜ r ≡ startRecords answer roll ⌝ }
 {
     StartRecords { answer, roll }
@@ -160,7 +167,7 @@ pub fn start_on(
     processes: u32,
     words: &[u32],
     state: &mut [u32],
-    roll: [Arrival; 16],
+    roll: [Arrival; MOST_PROCESSES],
     count: usize,
 ) -> StartRecords
     ensures { λ r. ⌜ Starts
@@ -169,7 +176,7 @@ pub fn start_on(
         × (drop count (r .roll) ≡ drop count roll) ⌝ }
 {
     let mut records = roll;
-    let lent = at_most(count, 16);
+    let lent = at_most(count, MOST_PROCESSES);
     let answer = start(table, processes, words, state, &mut records[..lent]);
     started_records(answer, records)
 }
@@ -177,10 +184,10 @@ pub fn start_on(
 // A step's answer, and the team's records as it leaves them.
 pub struct StepRecords {
     pub answer: Stepped,
-    pub roll: [Arrival; 16],
+    pub roll: [Arrival; MOST_PROCESSES],
 }
 
-fn stepped_records(answer: Stepped, roll: [Arrival; 16]) -> StepRecords
+fn stepped_records(answer: Stepped, roll: [Arrival; MOST_PROCESSES]) -> StepRecords
     ensures { λ r. ⌜ r ≡ stepRecords answer roll ⌝ }
 {
     StepRecords { answer, roll }
@@ -190,7 +197,7 @@ fn stepped_records(answer: Stepped, roll: [Arrival; 16]) -> StepRecords
 pub fn step_on(
     table: &[u8],
     state: &mut [u32],
-    roll: [Arrival; 16],
+    roll: [Arrival; MOST_PROCESSES],
     count: usize,
     process: u32,
 ) -> StepRecords
@@ -199,7 +206,7 @@ pub fn step_on(
         × (drop count (r .roll) ≡ drop count roll) ⌝ }
 {
     let mut records = roll;
-    let lent = at_most(count, 16);
+    let lent = at_most(count, MOST_PROCESSES);
     let answer = step(table, state, &mut records[..lent], process);
     stepped_records(answer, records)
 }

@@ -47,7 +47,7 @@ use Rattle.rules.specs.declared.Arrival.{Arrival}
 use Rattle.rules.specs.Arrivals.{runningRecord, withArrival}
 use Rattle.rules.proofs.Arrival as T
 use Rattle.rules.proofs.Arrival.Laws as T′
-use Rattle.team.specs.Roll.{lentRecords, loaded}
+use Rattle.team.specs.Roll.{mostLent, lentRecords, loaded}
 use Rattle.team.proofs.LendLaws.{loaded-none, loaded-next, lent-within, lent-few}
 use Rattle.team.proofs.Rows.{Words, wordsTy, wordsVal, words-zero, words-make, words-typed, recordVal, record-typed}
 use Rattle.team.proofs.WordCalls.{AtMost, Placed, calls-count, calls-placed}
@@ -173,7 +173,7 @@ module _ {M : Type 1} (𝓤 : URA M) (H : Heap 𝓤) (A : Atoms 𝓤) (W : Given
         within : i .0 < length ys
         within = omega (arith, less, lent-within (length ys))
 
-        few : i .0 < 17
+        few : i .0 < mostLent
         few = omega (arith, less, lent-few (length ys))
 
         fits : i .0 < 2 ^ 64
@@ -200,7 +200,7 @@ module _ {M : Type 1} (𝓤 : URA M) (H : Heap 𝓤) (A : Atoms 𝓤) (W : Given
       assigns ! (rep ! 68 (lit ! tt)) (from ! (stop !)) (init ! 14 refl (words-typed 𝓤 H A W (replicate 68 0) words-zero)) $
       rewrite ! 14 (λ (l : List ℕ). ‵ (fat fullShare wordsTy l₂ 0 (wordsVal l))) (sym (loaded-none ys)) refl $
       assigns ! (of-opd ! (load ! (from ! (fld ! refl (stop !))) (look-in ! 16 (sub ! 1 refl (whole !))))) (from ! (stop !)) (init ! 8 refl (tt, record { fits = room .0 })) $
-      calls-count ! mem run (fmOf 𝓤 H (W .laws) 𝓣) known-count (length ys) 17 (room .0) (lit< tt) (and-then ! (load ! (from ! (stop !)) (look ! 9 refl)) (and-then ! (lit ! tt) (no-more !))) (λ fits.
+      calls-count ! mem run (fmOf 𝓤 H (W .laws) 𝓣) known-count (length ys) mostLent (room .0) (lit< tt) (and-then ! (load ! (from ! (stop !)) (look ! 9 refl)) (and-then ! (lit ! tt) (no-more !))) (λ fits.
       land ! (from ! (stop !)) (init ! 12 refl (tt, record { fits = fits })) $
       assigns ! (of-opd ! (lit ! tt)) (from ! (stop !)) (init ! 10 refl (tt, record { fits = lit< tt })) $
       move ! (21 ∷ []) $ fsplit ! $ fsplit ! $ move ! (1 ∷ []) $ fsplit ! $ move ! (24 ∷ []) $ split ! $

@@ -49,7 +49,7 @@ use Rattle.rules.specs.Arrivals.{runningRecord}
 use Rattle.rules.proofs.Arrival as T
 use Rattle.rules.proofs.Arrival.Laws as T′
 use Rattle.meeting.specs.Meeting.{arrivalAt}
-use Rattle.team.specs.Roll.{lentRecords, saved}
+use Rattle.team.specs.Roll.{mostLent, lentRecords, saved}
 use Rattle.team.proofs.LendLaws.{saved-none, saved-next, saved-length, lent-within, lent-few}
 use Rattle.team.proofs.Rows.{Words, wordsTy, wordsVal, words-tell, words-make, words-typed, recordVal, record-make, record-typed}
 use Rattle.team.proofs.WordCalls.{AtMost, RecordAt, calls-count, calls-record}
@@ -177,7 +177,7 @@ module _ {M : Type 1} (𝓤 : URA M) (H : Heap 𝓤) (A : Atoms 𝓤) (W : Given
         within : i .0 < length (roll (i .0))
         within = omega (arith, less, lent-within (length ys), saved-length words (i .0) ys)
 
-        few : i .0 < 17
+        few : i .0 < mostLent
         few = omega (arith, less, lent-few (length ys))
 
         fits : i .0 < 2 ^ 64
@@ -199,7 +199,7 @@ module _ {M : Type 1} (𝓤 : URA M) (H : Heap 𝓤) (A : Atoms 𝓤) (W : Given
       alloc1 ! (λ l₀. alloc1 ! (λ l₁. alloc1 ! (λ l₂. alloc1 ! (λ l₃. alloc1 ! (λ l₄. alloc1 ! (λ l₅. alloc1 ! (λ l₆. alloc1 ! (λ l₇. alloc1 ! (λ l₈. alloc1 ! (λ l₉. alloc0 ! $ params1 ! $
       pass1 ! (init ! 16 refl (tt, (tt, (record { fits = room .0 }, tt)))) $ pass1 ! (init ! 14 refl (words-typed 𝓤 H A W words ws)) $ pass0 ! $
       assigns ! (of-opd ! (load ! (from ! (fld ! refl (stop !))) (look-in ! 16 (sub ! 1 refl (whole !))))) (from ! (stop !)) (init ! 8 refl (tt, record { fits = room .0 })) $
-      calls-count ! mem run (fmOf 𝓤 H (W .laws) 𝓣) known-count (length ys) 17 (room .0) (lit< tt) (and-then ! (load ! (from ! (stop !)) (look ! 9 refl)) (and-then ! (lit ! tt) (no-more !))) (λ fits.
+      calls-count ! mem run (fmOf 𝓤 H (W .laws) 𝓣) known-count (length ys) mostLent (room .0) (lit< tt) (and-then ! (load ! (from ! (stop !)) (look ! 9 refl)) (and-then ! (lit ! tt) (no-more !))) (λ fits.
       land ! (from ! (stop !)) (init ! 12 refl (tt, record { fits = fits })) $
       assigns ! (of-opd ! (lit ! tt)) (from ! (stop !)) (init ! 10 refl (tt, record { fits = lit< tt })) $
       move ! (21 ∷ []) $ fsplit ! $ fsplit ! $ move ! (1 ∷ []) $ fsplit ! $ move ! (24 ∷ []) $ split ! $

@@ -49,6 +49,7 @@ use Rattle.rules.proofs.Arrival as T
 use Rattle.rules.proofs.Verdict as V′
 use Rattle.rules.proofs.Verdict.Laws as VL
 use Rattle.machine.specs.Layout.{Starts}
+use Rattle.rules.specs.Process.{mostProcesses}
 use Rattle.team.specs.Held.{startRecords}
 use Rattle.team.specs.Roll.{atMost, rollWords}
 use Rattle.team.proofs.StartRecords as R′
@@ -99,16 +100,16 @@ module _ {M : Type 1} (𝓤 : URA M) (H : Heap 𝓤) (A : Atoms 𝓤) (W : Given
     (κ₀ κ₁ κ₂ : Lft) (q₀ q₁ q₂ : Share) (table words state : RefT (List ℕ)) (room₀ : Room u8 (length (table .now))) (room₁ : Room u32 (length (words .now))) (room₂ : Room u32 (length (state .now)))
     (xs : List Arrival) (held-is : Is Records xs (recordsVal xs ∷ [])) (count : ℕ) (count-fits : count < 2 ^ 64) (processes : ℕ) (fits : processes < 2 ^ 32) where
   abbrev k : ℕ
-  k = atMost count 16
+  k = atMost count mostProcesses
 
-  sized : length xs ≡ 16
+  sized : length xs ≡ mostProcesses
   sized = held-is .1 .0 .1
 
   lent-length : length (take k xs) ≡ k
-  lent-length = length-take-le k xs (omega (arith, sized, most-within count 16))
+  lent-length = length-take-le k xs (omega (arith, sized, most-within count mostProcesses))
 
   room : Room T.the-row (length (take k xs))
-  room = (omega (arith, lent-length, most-within count 16), omega (arith, lent-length, most-within count 16))
+  room = (omega (arith, lent-length, most-within count mostProcesses), omega (arith, lent-length, most-within count mostProcesses))
 
   -- what the parameters own
   abbrev Table : Item 𝓤
@@ -170,9 +171,9 @@ module _ {M : Type 1} (𝓤 : URA M) (H : Heap 𝓤) (A : Atoms 𝓤) (W : Given
   says-so : (r : Verdict) (zs : List ℕ) (ys : List Arrival) → Said r zs ys → length ys ≡ length (take k xs)
       → Starts (after (rollWords (take count xs))) r zs (rollWords (take count (ys ++ drop k xs))) × (drop count (ys ++ drop k xs) ≡ drop count xs)
   says-so r zs ys said long = (
-    subst (λ (l : List Arrival). Starts (after (rollWords l)) r zs (rollWords (take count (ys ++ drop k xs)))) (take-most count 16 xs sized)
-        (subst (λ (l : List Arrival). Starts (after (rollWords (take k xs))) r zs (rollWords l)) (sym (replaced-take count 16 xs ys sized long)) said),
-    replaced-drop count 16 xs ys sized long,
+    subst (λ (l : List Arrival). Starts (after (rollWords l)) r zs (rollWords (take count (ys ++ drop k xs)))) (take-most count mostProcesses xs sized)
+        (subst (λ (l : List Arrival). Starts (after (rollWords (take k xs))) r zs (rollWords l)) (sym (replaced-take count mostProcesses xs ys sized long)) said),
+    replaced-drop count mostProcesses xs ys sized long,
   )
 
   exits : (r : Verdict) (zs : List ℕ) (ys : List Arrival) → Said r zs ys → length zs ≡ length (state .now) → length ys ≡ length (take k xs) → Is R′.the-row (startRecords r (ys ++ drop k xs)) (RL.lowered (startRecords r (ys ++ drop k xs)) ∷ [])
@@ -198,7 +199,7 @@ module _ {M : Type 1} (𝓤 : URA M) (H : Heap 𝓤) (A : Atoms 𝓤) (W : Given
         pass1 ! (init ! 20 refl (tt, (tt, (record { fits = room₂ .0 }, tt)))) $ pass1 ! (init ! 18 refl (records-typed 𝓤 H A W xs held-is)) $ pass1 ! (init ! 16 refl (tt, record { fits = count-fits })) $ pass0 ! $
         -- [_14; …; _13; …; …; _0; …; the tokens; what is owned]: local i stands at 2 · (14 − i)
         assigns ! (of-opd ! (load ! (from ! (stop !)) (look ! 18 refl))) (from ! (stop !)) (init ! 14 refl (records-typed 𝓤 H A W xs held-is)) $
-        calls-count ! mem run fm known-count count 16 count-fits (lit< tt) (and-then ! (load ! (from ! (stop !)) (look ! 17 refl)) (and-then ! (lit ! tt) (no-more !))) (λ k-fits.
+        calls-count ! mem run fm known-count count mostProcesses count-fits (lit< tt) (and-then ! (load ! (from ! (stop !)) (look ! 17 refl)) (and-then ! (lit ! tt) (no-more !))) (λ k-fits.
         land ! (from ! (stop !)) (init ! 12 refl (tt, record { fits = k-fits })) $
         assigns ! (addr ! (from ! (fld ! refl (hop ! (look-in ! 20 (sub ! 0 refl (whole !))) (stop !))))) (from ! (stop !)) (init ! 8 refl (tt, tt)) $
         assigns ! (agg ! (and-then ! (load ! (from ! (stop !)) (look ! 8 refl)) (and-then ! (load ! (from ! (fld ! refl (stop !))) (look-in ! 20 (sub ! 1 refl (whole !)))) (no-more !)))) (from ! (stop !)) (init ! 6 refl (tt, (tt, (record { fits = room₂ .0 }, tt)))) $
@@ -212,8 +213,8 @@ module _ {M : Type 1} (𝓤 : URA M) (H : Heap 𝓤) (A : Atoms 𝓤) (W : Given
         move ! (2 ∷ 1 ∷ 0 ∷ 5 ∷ 4 ∷ 3 ∷ []) $
         -- the first k records are lent for a lifetime that is made here
         lft-new ! tt (λ α. move ! (21 ∷ []) $
-        use1 W (later (some (λ (γ : GName). Lent α l₇ γ ⊛ ‵ (LentPart T.the-row recordVal 16 (α ∷ []) xs k l₇ γ))))
-        (lends-part T.the-row recordVal 16 𝓤 H A W tt record-tell (record-make 𝓤 H A W) (α ∷ []) xs k l₇ (named 3) held-is room) $ await ! tt $ pick ! (λ γ. split ! $
+        use1 W (later (some (λ (γ : GName). Lent α l₇ γ ⊛ ‵ (LentPart T.the-row recordVal mostProcesses (α ∷ []) xs k l₇ γ))))
+        (lends-part T.the-row recordVal mostProcesses 𝓤 H A W tt record-tell (record-make 𝓤 H A W) (α ∷ []) xs k l₇ (named 3) held-is room) $ await ! tt $ pick ! (λ γ. split ! $
         -- [the records lent; what is kept; the new token; token 0; token 1; token 2; table; words; state; _14; …]
         move ! (6 ∷ []) $ use1 W (Table ⊛ Table) (shr-slice-copy 𝓤 H A W (named 0) κ₀ u8 .twice table (slice-vals table)) $ split ! $
         move ! (8 ∷ []) $ use1 W (Given-words ⊛ Given-words) (shr-slice-copy 𝓤 H A W (named 1) κ₁ u32 .twice words (slice-vals words)) $ split ! $
@@ -232,7 +233,7 @@ module _ {M : Type 1} (𝓤 : URA M) (H : Heap 𝓤) (A : Atoms 𝓤) (W : Given
         -- [the records' last list; true; the state's; the new token; true; token 2; token 1; token 0; words; table; what is kept; _14; …]
         move ! (3 ∷ []) $ lft-end ! tt $ move ! (0 ∷ 10 ∷ 1 ∷ []) $
         use3 W (later (given (Is Records (zs .1 .1 .1 .1 .0 ++ drop k xs) (recordsVal (zs .1 .1 .1 .1 .0 ++ drop k xs) ∷ [])) (‵ (fat fullShare recordsTy l₇ 0 (recordsVal (zs .1 .1 .1 .1 .0 ++ drop k xs))))))
-        (part-back T.the-row recordVal 16 𝓤 H A W tt record-tell (record-make 𝓤 H A W) (α ∷ []) xs k l₇ γ (zs .1 .1 .1 .1 .0) sized long) $ await ! tt $ learn ! (λ back.
+        (part-back T.the-row recordVal mostProcesses 𝓤 H A W tt record-tell (record-make 𝓤 H A W) (α ∷ []) xs k l₇ γ (zs .1 .1 .1 .1 .0) sized long) $ await ! tt $ learn ! (λ back.
         -- [_7; true; the state's; true; token 2; token 1; token 0; words; table; _14; …], without _7
         land ! (from ! (stop !)) (init ! 19 refl (typed-at r v is)) $ rewrite ! 19 (λ (u : Val). ‵ (fat fullShare VL.mir l₉ 0 u)) (ap only (verdict-tell r (v ∷ []) is)) refl $
         assigns ! (of-opd ! (load ! (from ! (stop !)) (look ! 0 refl))) (from ! (stop !)) (init ! 9 refl (records-typed 𝓤 H A W (zs .1 .1 .1 .1 .0 ++ drop k xs) back)) $

@@ -4,7 +4,8 @@ use mathlib.Core.Path.{sym}
 use Prim.Native.Nat.{_*_}
 use native.Mathlib.Omega.{arith}
 use lib.Seq.{length-take-le}
-use Rattle.team.specs.Roll.{lentRecords}
+use Rattle.rules.specs.Arrivals.{arrivalSize}
+use Rattle.team.specs.Roll.{mostLent, lentRecords}
 use Rattle.rules.specs.Start.{started}
 use Rattle.team.proofs.CoreLaws.{starts-lent}
 use Rattle.team.proofs.LendLaws.{most-within}
@@ -15,14 +16,14 @@ at-most-requires : tie.Need-at-most-requires
 at-most-requires c κs = search needs
 
 mul-end : tie.Need-mul-end
-mul-end c = omega (arith, c .at-most .ensures, most-within (c .before .before .before .before .args .records) 17)
+mul-end c = omega (arith, c .at-most .ensures, most-within (c .before .before .before .before .args .records) mostLent)
 
 array-borrow-prefix-roll : tie.Need-array-borrow-prefix-roll
-array-borrow-prefix-roll c = omega (arith, c .before .at-most .ensures, most-within (c .before .before .before .before .before .args .records) 17)
+array-borrow-prefix-roll c = omega (arith, c .before .at-most .ensures, most-within (c .before .before .before .before .before .args .records) mostLent)
 
 slice-aggregate-start : tie.Need-slice-aggregate-start
 slice-aggregate-start c =
-    sym (length-take-le (4 * c .before .before .at-most .result) (c .before .before .before .before .before .before .args .lent) (omega (arith, c .before .before .at-most .ensures, most-within (c .before .before .before .before .before .before .args .records) 17)))
+    sym (length-take-le (arrivalSize * c .before .before .at-most .result) (c .before .before .before .before .before .before .args .lent) (omega (arith, c .before .before .at-most .ensures, most-within (c .before .before .before .before .before .before .args .records) mostLent)))
 
 start-requires : tie.Need-start-requires
 start-requires c κs = search needs

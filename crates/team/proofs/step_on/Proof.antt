@@ -49,6 +49,7 @@ use Rattle.rules.proofs.Arrival as T
 use Rattle.rules.proofs.Stepped as P′
 use Rattle.rules.proofs.Stepped.Laws as PL
 use Rattle.machine.specs.Outcomes.{Gives}
+use Rattle.rules.specs.Process.{mostProcesses}
 use Rattle.team.specs.Held.{stepRecords}
 use Rattle.team.specs.Roll.{atMost, rollWords}
 use Rattle.team.proofs.StepRecords as R′
@@ -90,16 +91,16 @@ module _ {M : Type 1} (𝓤 : URA M) (H : Heap 𝓤) (A : Atoms 𝓤) (W : Given
     (κ₀ κ₁ : Lft) (q₀ q₁ : Share) (table state : RefT (List ℕ)) (room₀ : Room u8 (length (table .now))) (room₁ : Room u32 (length (state .now)))
     (xs : List Arrival) (held-is : Is Records xs (recordsVal xs ∷ [])) (count : ℕ) (count-fits : count < 2 ^ 64) (process : ℕ) (fits : process < 2 ^ 32) where
   abbrev k : ℕ
-  k = atMost count 16
+  k = atMost count mostProcesses
 
-  sized : length xs ≡ 16
+  sized : length xs ≡ mostProcesses
   sized = held-is .1 .0 .1
 
   lent-length : length (take k xs) ≡ k
-  lent-length = length-take-le k xs (omega (arith, sized, most-within count 16))
+  lent-length = length-take-le k xs (omega (arith, sized, most-within count mostProcesses))
 
   room : Room T.the-row (length (take k xs))
-  room = (omega (arith, lent-length, most-within count 16), omega (arith, lent-length, most-within count 16))
+  room = (omega (arith, lent-length, most-within count mostProcesses), omega (arith, lent-length, most-within count mostProcesses))
 
   -- what the parameters own
   abbrev Table : Item 𝓤
@@ -158,9 +159,9 @@ module _ {M : Type 1} (𝓤 : URA M) (H : Heap 𝓤) (A : Atoms 𝓤) (W : Given
   says-so : (r : Stepped) (zs : List ℕ) (ys : List Arrival) → Said r zs ys → length ys ≡ length (take k xs)
       → Gives (after (rollWords (take count xs))) r zs (rollWords (take count (ys ++ drop k xs))) × (drop count (ys ++ drop k xs) ≡ drop count xs)
   says-so r zs ys said long = (
-    subst (λ (l : List Arrival). Gives (after (rollWords l)) r zs (rollWords (take count (ys ++ drop k xs)))) (take-most count 16 xs sized)
-        (subst (λ (l : List Arrival). Gives (after (rollWords (take k xs))) r zs (rollWords l)) (sym (replaced-take count 16 xs ys sized long)) said),
-    replaced-drop count 16 xs ys sized long,
+    subst (λ (l : List Arrival). Gives (after (rollWords l)) r zs (rollWords (take count (ys ++ drop k xs)))) (take-most count mostProcesses xs sized)
+        (subst (λ (l : List Arrival). Gives (after (rollWords (take k xs))) r zs (rollWords l)) (sym (replaced-take count mostProcesses xs ys sized long)) said),
+    replaced-drop count mostProcesses xs ys sized long,
   )
 
   exits : (r : Stepped) (zs : List ℕ) (ys : List Arrival) → Said r zs ys → length zs ≡ length (state .now) → length ys ≡ length (take k xs) → Is R′.the-row (stepRecords r (ys ++ drop k xs)) (RL.lowered (stepRecords r (ys ++ drop k xs)) ∷ [])
@@ -185,7 +186,7 @@ module _ {M : Type 1} (𝓤 : URA M) (H : Heap 𝓤) (A : Atoms 𝓤) (W : Given
         pass1 ! (init ! 18 refl (tt, record { fits = count-fits })) $ pass1 ! (init ! 16 refl (tt, record { fits = fits })) $ pass0 ! $
         -- [_13; …; _12; …; …; _0; …; the tokens; what is owned]: local i stands at 2 · (13 − i)
         assigns ! (of-opd ! (load ! (from ! (stop !)) (look ! 20 refl))) (from ! (stop !)) (init ! 14 refl (records-typed 𝓤 H A W xs held-is)) $
-        calls-count ! mem run fm known-count count 16 count-fits (lit< tt) (and-then ! (load ! (from ! (stop !)) (look ! 19 refl)) (and-then ! (lit ! tt) (no-more !))) (λ k-fits.
+        calls-count ! mem run fm known-count count mostProcesses count-fits (lit< tt) (and-then ! (load ! (from ! (stop !)) (look ! 19 refl)) (and-then ! (lit ! tt) (no-more !))) (λ k-fits.
         land ! (from ! (stop !)) (init ! 12 refl (tt, record { fits = k-fits })) $
         assigns ! (addr ! (from ! (fld ! refl (hop ! (look-in ! 22 (sub ! 0 refl (whole !))) (stop !))))) (from ! (stop !)) (init ! 8 refl (tt, tt)) $
         assigns ! (agg ! (and-then ! (load ! (from ! (stop !)) (look ! 8 refl)) (and-then ! (load ! (from ! (fld ! refl (stop !))) (look-in ! 22 (sub ! 1 refl (whole !)))) (no-more !)))) (from ! (stop !)) (init ! 6 refl (tt, (tt, (record { fits = room₁ .0 }, tt)))) $
@@ -199,8 +200,8 @@ module _ {M : Type 1} (𝓤 : URA M) (H : Heap 𝓤) (A : Atoms 𝓤) (W : Given
         move ! (1 ∷ 0 ∷ 3 ∷ 2 ∷ []) $
         -- the first k records are lent for a lifetime that is made here
         lft-new ! tt (λ α. move ! (19 ∷ []) $
-        use1 W (later (some (λ (γ : GName). Lent α l₆ γ ⊛ ‵ (LentPart T.the-row recordVal 16 (α ∷ []) xs k l₆ γ))))
-        (lends-part T.the-row recordVal 16 𝓤 H A W tt record-tell (record-make 𝓤 H A W) (α ∷ []) xs k l₆ (named 2) held-is room) $ await ! tt $ pick ! (λ γ. split ! $
+        use1 W (later (some (λ (γ : GName). Lent α l₆ γ ⊛ ‵ (LentPart T.the-row recordVal mostProcesses (α ∷ []) xs k l₆ γ))))
+        (lends-part T.the-row recordVal mostProcesses 𝓤 H A W tt record-tell (record-make 𝓤 H A W) (α ∷ []) xs k l₆ (named 2) held-is room) $ await ! tt $ pick ! (λ γ. split ! $
         -- [the records lent; what is kept; the new token; token 0; token 1; table; state; _13; …]
         move ! (5 ∷ []) $ use1 W (Table ⊛ Table) (shr-slice-copy 𝓤 H A W (named 0) κ₀ u8 .twice table (slice-vals table)) $ split ! $
         -- [table; table; the records lent; what is kept; the new token; token 0; token 1; state; _13; …]
@@ -218,7 +219,7 @@ module _ {M : Type 1} (𝓤 : URA M) (H : Heap 𝓤) (A : Atoms 𝓤) (W : Given
         -- [the records' last list; true; the state's; the new token; true; token 1; token 0; table; what is kept; _13; …]
         move ! (3 ∷ []) $ lft-end ! tt $ move ! (0 ∷ 8 ∷ 1 ∷ []) $
         use3 W (later (given (Is Records (zs .1 .1 .0 ++ drop k xs) (recordsVal (zs .1 .1 .0 ++ drop k xs) ∷ [])) (‵ (fat fullShare recordsTy l₆ 0 (recordsVal (zs .1 .1 .0 ++ drop k xs))))))
-        (part-back T.the-row recordVal 16 𝓤 H A W tt record-tell (record-make 𝓤 H A W) (α ∷ []) xs k l₆ γ (zs .1 .1 .0) sized long) $ await ! tt $ learn ! (λ back.
+        (part-back T.the-row recordVal mostProcesses 𝓤 H A W tt record-tell (record-make 𝓤 H A W) (α ∷ []) xs k l₆ γ (zs .1 .1 .0) sized long) $ await ! tt $ learn ! (λ back.
         -- [_6; true; the state's; true; token 1; token 0; table; _13; …], without _6
         land ! (from ! (stop !)) (init ! 17 refl (stepped-typed-at r v is)) $ rewrite ! 17 (λ (u : Val). ‵ (fat fullShare PL.mir l₈ 0 u)) (ap only (stepped-tell r (v ∷ []) is)) refl $
         assigns ! (of-opd ! (load ! (from ! (stop !)) (look ! 0 refl))) (from ! (stop !)) (init ! 7 refl (records-typed 𝓤 H A W (zs .1 .1 .0 ++ drop k xs) back)) $
