@@ -10,7 +10,7 @@ use lib.Dec.{eqb, ltb}
 use lib.ListN.{length, getD, take, drop, set, length-take}
 use lib.Seq.{drop-cons, take-suc, set-at, length-take-le, append-snoc}
 use Rattle.rules.proofs.ChoiceLaws.{bool-cases}
-use Rattle.rules.specs.Process.{processWords}
+use Rattle.rules.specs.Process.{latchPlaces, processWords}
 use Rattle.rules.specs.Start.{latchesOf}
 
 pub copied-more : (words out : List ℕ) (i : ℕ) → i < length words → i < length out
@@ -22,8 +22,8 @@ copied-more words out i l m =
     ∙ (sym (append-snoc (take i words) (getD words i 0) (drop (suc i) out))
     ∙ sym (ap (λ xs. xs ++ drop (suc i) out) (take-suc words i 0 l))))
 
--- a process has at most 12 latches
-pub few-latches : (state : List ℕ) (p : ℕ) → length (latchesOf state p) ≤ 12
+-- a process has only so many latches
+pub few-latches : (state : List ℕ) (p : ℕ) → length (latchesOf state p) ≤ latchPlaces
 unfolding latchesOf
 few-latches state p =
     ⊎-elim

@@ -16,9 +16,13 @@ use Rattle.rules.specs.Table.{Statement, nothing, assign, sequence, bran
 use Rattle.rules.specs.Table.{Collective, barrier, broadcast, exchange}
 use Rattle.rules.specs.Table.{expressionAt, statementAt}
 
+-- two words, 16 procedures and 256 nodes
+abbrev pub mostTableBytes : ℕ
+mostTableBytes = 1096
+
 -- 2: "Is the length a multiple of 4, from 16 to 1,096 bytes?"
 abbrev pub question2 : List ℕ → Verdict
-question2 table = ask 2 (eqb (length table % 4) 0 && leb 16 (length table) && leb (length table) 1096)
+question2 table = ask 2 (eqb (length table % 4) 0 && leb 16 (length table) && leb (length table) mostTableBytes)
 
 -- "edition, 4 bits, is 1; variables V .. 1 to 32; procedures P .. 1 to 16; nodes N .. 1 to 256; 8 zero bits"
 unfoldable pub headerFits : List ℕ → Bool

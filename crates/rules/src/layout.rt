@@ -1,5 +1,6 @@
-// The numbers of the layout, each once in the code. The definitions have them in specs/Process.antt (places and offsets),
-// Arrivals.antt, Acceptance.antt and Table.antt (kinds); `sizes`, `offsets` and `kinds` hold the two to each other.
+// The numbers of the layout, each once in the code and once in the definitions: specs/Process.antt (places and offsets),
+// Evaluation.antt (doors), Table.antt (kinds), WellFormed.antt, Arrivals.antt and Acceptance.antt (the other sizes). The
+// functions below hold the two to each other.
 ghost use mathlib.Core.List.{_∷_, []};
 ghost use mathlib.Core.Path.{_≡_};
 ghost use Rattle.rules.specs.Acceptance.{scratchWords};
@@ -8,6 +9,7 @@ ghost use Rattle.rules.specs.Evaluation.{doors};
 ghost use Rattle.rules.specs.Process.{variablePlaces, gatheredPlaces, latchPlaces, stackPlaces, mostProcesses};
 ghost use Rattle.rules.specs.Process.{gatheredAt, doorsAt, latchesAt, depthAt, stackAt, processWords};
 ghost use Rattle.rules.specs.Table.{lastExpression, firstStatement, lastStatement};
+ghost use Rattle.rules.specs.WellFormed.{mostTableBytes};
 
 // The parts of a process's words, in their order; between latches and stack stands the depth.
 pub const VARIABLE_PLACES: usize = 32;
@@ -32,7 +34,9 @@ pub const STACK_AT: usize = DEPTH_AT + 1;
 
 pub const PROCESS_WORDS: usize = STACK_AT + STACK_PLACES;
 
-// A record of the arrivals, the checker's scratch, and the processes of a team.
+// The longest table, a record of the arrivals, the checker's scratch, and the processes of a team.
+pub const MOST_TABLE_BYTES: usize = 1096;
+
 pub const ARRIVAL_WORDS: usize = 4;
 
 pub const SCRATCH_WORDS: usize = 256;
@@ -51,9 +55,9 @@ pub const FIRST_STATEMENT: u32 = 16;
 
 pub const LAST_STATEMENT: u32 = 25;
 
-fn sizes() -> [usize; 8]
-    ensures { λ r. ⌜ r ≡ variablePlaces ∷ gatheredPlaces ∷ doors ∷ latchPlaces ∷ stackPlaces ∷ arrivalSize ∷ scratchWords
-        ∷ mostProcesses ∷ [] ⌝ }
+fn sizes() -> [usize; 9]
+    ensures { λ r. ⌜ r ≡ variablePlaces ∷ gatheredPlaces ∷ doors ∷ latchPlaces ∷ stackPlaces ∷ mostTableBytes ∷ arrivalSize
+        ∷ scratchWords ∷ mostProcesses ∷ [] ⌝ }
 {
     [
         VARIABLE_PLACES,
@@ -61,6 +65,7 @@ fn sizes() -> [usize; 8]
         DOOR_PLACES,
         LATCH_PLACES,
         STACK_PLACES,
+        MOST_TABLE_BYTES,
         ARRIVAL_WORDS,
         SCRATCH_WORDS,
         MOST_PROCESSES,

@@ -1,27 +1,26 @@
 // Reads a word L, L table bytes, a word for the number of banks, the start words and a byte a turn on standard input, and
 // prints what each turn did.
 ghost use mathlib.Core.Path.{_≡_};
-ghost use Prim.Native.Nat.{_*_, _≤_};
+ghost use Prim.Native.Nat.{_+_, _*_, _≤_};
 ghost use lib.ListN.{length};
+ghost use Rattle.rules.specs.Evaluation.{doors};
+ghost use Rattle.rules.specs.Process.{variablePlaces, processWords, mostProcesses};
 use libc::STDIN_FILENO;
 use rules::Arrival;
 use rules::Refusal;
 use rules::Status;
 use rules::Stepped;
 use rules::Verdict;
+use rules::layout::DOOR_PLACES;
+use rules::layout::MOST_PROCESSES;
+use rules::layout::PROCESS_WORDS;
+use rules::layout::START_WORDS;
+use rules::layout::STATE_WORDS;
 use table::words::header;
 use table::words::word;
 
 // A byte more than question 25 allows, so that longer input shows.
 const INPUT_BYTES: usize = 32769;
-
-const MOST_PROCESSES: usize = 16;
-
-// 329 words a process.
-const STATE_WORDS: usize = 5264;
-
-// 16 processes with 32 variables and 12 doors.
-const MOST_START_WORDS: usize = 704;
 
 fn lesser(a: usize, b: usize) -> usize
     ensures { λ r. ⌜ r ≤ a ⌝ }
@@ -33,14 +32,14 @@ fn lesser(a: usize, b: usize) -> usize
 // The start words of so many processes, where the table and their number allow a start. Where they do not, the start is
 // refused before its words are counted.
 fn start_words(table: &[u8], processes: usize) -> usize
-    requires { ⌜ processes ≤ 16 ⌝ }
-    ensures { λ r. ⌜ r ≤ 704 ⌝ }
+    requires { ⌜ processes ≤ mostProcesses ⌝ }
+    ensures { λ r. ⌜ r ≤ (variablePlaces + doors) * mostProcesses ⌝ }
 {
     if table.len() < 4 {
         return 0;
     }
-    let each = header(table).variables % 64 + 12;
-    lesser(each * processes, MOST_START_WORDS)
+    let each = header(table).variables % 64 + DOOR_PLACES;
+    lesser(each * processes, START_WORDS)
 }
 
 // The first words of some bytes.
@@ -74,7 +73,7 @@ fn bank_of(turn: u8) -> u32 {
 fn take_turns(
     table: &[u8],
     state: &mut [u32],
-    roll: [Arrival; 16],
+    roll: [Arrival; MOST_PROCESSES],
     processes: usize,
     turns: &[u8],
 ) {
@@ -94,11 +93,12 @@ fn take_turns(
 
 // `given` holds the start words and the turns. Start words cut short are too few, which the start refuses with 19.
 fn run_lent(table: &[u8], processes: u32, given: &[u8], words: &mut [u32], state: &mut [u32])
-    requires { ⌜ (length (now words) ≡ 704) × (length (now state) ≡ 5264) ⌝ }
+    requires { ⌜ (length (now words) ≡ (variablePlaces + doors) * mostProcesses)
+        × (length (now state) ≡ processWords * mostProcesses) ⌝ }
 {
     let count = lesser(processes as usize, MOST_PROCESSES);
     let taken = lesser(start_words(table, count), given.len() / 4);
-    let state_end = 329 * count;
+    let state_end = PROCESS_WORDS * count;
     let turns_at = 4 * taken;
     let running = Arrival {
         status: Status::Running,
@@ -112,7 +112,7 @@ fn run_lent(table: &[u8], processes: u32, given: &[u8], words: &mut [u32], state
         processes,
         &words[..taken],
         &mut state[..state_end],
-        [running; 16],
+        [running; MOST_PROCESSES],
         count,
     );
     let answer = after.answer;
@@ -130,7 +130,7 @@ fn run_lent(table: &[u8], processes: u32, given: &[u8], words: &mut [u32], state
 }
 
 fn run_table(table: &[u8], processes: u32, given: &[u8]) {
-    let mut words = [0u32; MOST_START_WORDS];
+    let mut words = [0u32; START_WORDS];
     let mut state = [0u32; STATE_WORDS];
     run_lent(table, processes, given, &mut words, &mut state);
 }

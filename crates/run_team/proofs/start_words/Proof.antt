@@ -2,6 +2,8 @@
 use Prim.Native.Nat.{_+_, _%_, _≤_}
 use native.Mathlib.Nat.{mul-le-mul}
 use native.Mathlib.Omega.{arith}
+use Rattle.rules.specs.Evaluation.{doors}
+use Rattle.rules.specs.Process.{mostProcesses}
 use borrow.Author.Needs.{needs}
 use Rattle.run_team.proofs.start_words.Statement.{statement}
 use Rattle.run_team.proofs.start_words.Tie as tie
@@ -17,8 +19,8 @@ add-each c = search needs
 
 mul-lesser : tie.Need-mul-lesser
 mul-lesser c =
-    let each : c .before .header .result .variables % 64 + 12 ≤ 75 = omega arith in
-    let few : c .before .before .before .before .args .processes ≤ 16 = c .before .before .before .before .pre in
+    let each : c .before .header .result .variables % 64 + doors ≤ 63 + doors = omega arith in
+    let few : c .before .before .before .before .args .processes ≤ mostProcesses = c .before .before .before .before .pre in
     record { fits = omega (arith, mul-le-mul each few) }
 
 lesser-requires : tie.Need-lesser-requires
