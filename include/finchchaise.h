@@ -16,11 +16,11 @@
  *
  * Sizes in words. V is the number of variables that the table's header names:
  *
- *   start     (V + 12) a process: its V variables, then its 12 doors
- *   state     329 a process: 32 variables, 16 gathered words, 12 doors, 12 latches, the depth of its
- *             stack, 256 stack places
- *   roll      4 a process: status (0 running, 1 waiting, 2 ended), node, value, source
- *   scratch   256
+ *   start     (V + FC_DOORS) a process: its V variables, then its doors
+ *   state     FC_PROCESS_WORDS a process: variables, gathered words, doors, latches, the depth of its
+ *             stack, stack places
+ *   roll      FC_ROLL_WORDS a process: status (0 running, 1 waiting, 2 ended), node, value, source
+ *   scratch   FC_SCRATCH_WORDS
  */
 #ifndef FINCHCHAISE_H
 #define FINCHCHAISE_H
@@ -35,11 +35,24 @@ extern "C" {
 enum {
     FC_MOST_TABLE_BYTES = 1096,
     FC_MOST_PROCESSES = 16,
-    FC_DOORS = 12,
-    FC_LATCHES = 12,
-    FC_PROCESS_WORDS = 329,
     FC_ROLL_WORDS = 4,
     FC_SCRATCH_WORDS = 256
+};
+
+/* The parts of a process's words, in their order, and where each begins. Variables stand at 0. */
+enum {
+    FC_VARIABLES = 32,
+    FC_GATHERED = 16,
+    FC_DOORS = 12,
+    FC_LATCHES = 12,
+    FC_STACK = 256,
+
+    FC_GATHERED_AT = FC_VARIABLES,
+    FC_DOORS_AT = FC_GATHERED_AT + FC_GATHERED,
+    FC_LATCHES_AT = FC_DOORS_AT + FC_DOORS,
+    FC_DEPTH_AT = FC_LATCHES_AT + FC_LATCHES,
+    FC_STACK_AT = FC_DEPTH_AT + 1,
+    FC_PROCESS_WORDS = FC_STACK_AT + FC_STACK
 };
 
 /* The first word of a process's record in the roll. */
@@ -85,8 +98,8 @@ static inline uint32_t fc_place(uint64_t answer) { return (uint32_t)answer; }
 /*
  * The checker: 0 if the table is accepted, else the refusal (numbers 1 to 17).
  *
- * scratch needs 256 words; what they hold before the call plays no part. After any answer but number
- * 1 the first 256 are 0. Later words, and all of them after number 1, are left as they were.
+ * scratch needs FC_SCRATCH_WORDS; what they hold before the call plays no part. After any answer but
+ * number 1 the first so many are 0. Later words, and all after number 1, are left as they were.
  */
 uint64_t fc_check(const uint8_t *table, size_t table_length, uint32_t *scratch,
                   size_t scratch_length);
@@ -95,7 +108,7 @@ uint64_t fc_check(const uint8_t *table, size_t table_length, uint32_t *scratch,
  * Starts a team: 0 if it was started, else the refusal (numbers 2 to 12 and 18 to 21). It asks that
  * the table is well formed, and not that the checker accepts it.
  *
- * processes is 1 to 16; start, state and roll have exactly the lengths given above. A taken start
+ * processes is 1 to FC_MOST_PROCESSES; start, state and roll have exactly the lengths given above. A taken start
  * writes every word of state and roll, a refused one none.
  */
 uint64_t fc_start(const uint8_t *table, size_t table_length, uint32_t processes,
@@ -106,14 +119,14 @@ uint64_t fc_start(const uint8_t *table, size_t table_length, uint32_t processes,
  * One step of one process, counted from 0. Numbers of a refusal: 2 to 12 and 20 to 24.
  *
  * table, state and roll are those of the start, with nothing written to them since but by fc_step.
- * The number of processes is roll_length / 4. A refused step writes no word, and neither does one
+ * The number of processes is roll_length / FC_ROLL_WORDS. A refused step writes no word, and neither does one
  * with the event waits or ended.
  */
 FcStep fc_step(const uint8_t *table, size_t table_length, uint32_t *state, size_t state_length,
                uint32_t *roll, size_t roll_length, uint32_t process);
 
 /*
- * Copies a process's 12 latches into out, or as many of them as out has room for, lowest first, and
+ * Copies a process's latches into out, or as many of them as out has room for, lowest first, and
  * answers how many words were copied. It is 0 for a process that the state lacks and for a state
  * that is not a whole number of processes. Other words of out are left as they were.
  */

@@ -1,7 +1,7 @@
 //! The plain Rust answers as the library does, also on tables and states that are not timed.
 
 use crate::native;
-use finchchaise::ROLL_WORDS;
+use finchchaise::{DOORS, ROLL_WORDS, SCRATCH_WORDS};
 use finchchaise_compare::{damaged, random_bytes, small_table, table, MadeUp, Random};
 
 const TABLES: usize = 20_000;
@@ -17,7 +17,14 @@ fn checks_are_answered_alike() {
             2 => small_table(random),
             _ => random_bytes(random),
         };
-        let words = random.pick(&[0, 255, 256, 256, 256, 260]);
+        let words = random.pick(&[
+            0,
+            SCRATCH_WORDS - 1,
+            SCRATCH_WORDS,
+            SCRATCH_WORDS,
+            SCRATCH_WORDS,
+            260,
+        ]);
         let (mut scratch, mut expected) = (vec![7; words], vec![7; words]);
         let answer = native::check(&bytes, &mut scratch);
         assert_eq!(answer, finchchaise::check(&bytes, &mut expected));
@@ -53,7 +60,7 @@ fn starts_and_steps_are_answered_alike() {
         );
         assert_eq!(lent, expected);
         let count = lent.roll.len() / ROLL_WORDS;
-        let given = random.words(count * (built.variables as usize + 12));
+        let given = random.words(count * (built.variables as usize + DOORS));
         let count = count as u32;
         assert_eq!(
             native::start(&bytes, count, &given, &mut lent.state, &mut lent.roll),

@@ -3,12 +3,11 @@
 
 use crate::{inputs, native};
 use finchchaise::{Answer, Refusal, TeamStatus};
-use finchchaise::{DOORS, PROCESS_WORDS, ROLL_WORDS, SCRATCH_WORDS};
+use finchchaise::{DEPTH_AT, DOORS, PROCESS_WORDS, ROLL_WORDS, SCRATCH_WORDS, STACK, STACK_AT};
 use finchchaise_samples::stocktake;
 
 const STOCKTAKE_VARIABLES: usize = 4;
 const EXCHANGE: u8 = 25;
-const DEPTH: usize = 72;
 
 type Check = fn(&[u8], &mut [u32]) -> Result<(), Refusal>;
 type Start = fn(&[u8], u32, &[u32], &mut [u32], &mut [u32]) -> Result<(), Refusal>;
@@ -126,8 +125,8 @@ impl Work {
         let exchange = kinds.into_iter().position(|kind| kind == EXCHANGE);
         let node = exchange.expect("an exchange") as u32;
         for words in work.state.chunks_exact_mut(PROCESS_WORDS) {
-            words[DEPTH] = 256;
-            words[DEPTH + 1..].fill(node);
+            words[DEPTH_AT] = STACK as u32;
+            words[STACK_AT..].fill(node);
         }
         work.roll[..2].copy_from_slice(&[1, node]);
         work

@@ -1,12 +1,11 @@
 //! States and rolls that no start led to: most of them sound, others not.
 
 use crate::random::Random;
-use finchchaise::{PROCESS_WORDS, ROLL_WORDS};
+use crate::shape::{FIRST_STATEMENT, LAST_EXPRESSION, LAST_STATEMENT};
+use finchchaise::{DEPTH_AT, MOST_PROCESSES, PROCESS_WORDS, ROLL_WORDS, STACK, STACK_AT};
 use finchchaise_samples::Builder;
 
-const DEPTH: usize = 72;
-const STACK: usize = 73;
-const PLACES: usize = 256;
+const FULL: u32 = STACK as u32;
 
 /// How the processes stand to each other.
 #[derive(Clone, Copy, Debug, PartialEq)]
@@ -34,7 +33,7 @@ pub struct MadeUp {
 impl MadeUp {
     /// For a table that passes questions 2 to 12.
     pub fn new(table: &Builder, random: &mut Random) -> MadeUp {
-        let count = random.pick(&[1, 1, 2, 2, 2, 3, 3, 4, 5, 8, 16]);
+        let count = random.pick(&[1, 1, 2, 2, 2, 3, 3, 4, 5, 8, MOST_PROCESSES]);
         let nodes = Nodes::of(table);
         let plan = match nodes.collectives.is_empty() {
             true => Plan::Apart,
@@ -59,7 +58,7 @@ impl MadeUp {
             made_up.damage(&nodes, random);
         }
         if random.one_in(20) {
-            made_up.asked = random.pick(&[count as u32, 16, 255, 329, u32::MAX]);
+            made_up.asked = random.pick(&[count as u32, 16, 255, PROCESS_WORDS as u32, u32::MAX]);
         }
         made_up
     }
@@ -86,16 +85,16 @@ impl MadeUp {
 
     /// Words above the depth stay random: they are not to be looked at.
     fn fill_stack(&mut self, process: usize, nodes: &Nodes, random: &mut Random) {
-        let depth = random.pick(&[1, 1, 1, 2, 2, 3, 17, 255, 256, 256, 256]);
+        let depth = random.pick(&[1, 1, 1, 2, 2, 3, 17, STACK - 1, STACK, STACK, STACK]);
         let words = &mut self.state[process * PROCESS_WORDS..][..PROCESS_WORDS];
-        words[DEPTH] = depth as u32;
-        for entry in &mut words[STACK..STACK + depth] {
+        words[DEPTH_AT] = depth as u32;
+        for entry in &mut words[STACK_AT..STACK_AT + depth] {
             *entry = random.pick(&nodes.statements);
         }
     }
 
     fn end(&mut self, process: usize) {
-        self.state[process * PROCESS_WORDS + DEPTH] = 0;
+        self.state[process * PROCESS_WORDS + DEPTH_AT] = 0;
         self.record(process)[0] = 2;
     }
 
@@ -119,8 +118,8 @@ impl MadeUp {
 
     fn put_top(&mut self, process: usize, node: u32) {
         let words = &mut self.state[process * PROCESS_WORDS..];
-        let depth = words[DEPTH] as usize;
-        words[STACK + depth - 1] = node;
+        let depth = words[DEPTH_AT] as usize;
+        words[STACK_AT + depth - 1] = node;
     }
 
     fn record(&mut self, process: usize) -> &mut [u32] {
@@ -131,18 +130,22 @@ impl MadeUp {
     fn damage(&mut self, nodes: &Nodes, random: &mut Random) {
         let process = random.below(self.roll.len() / ROLL_WORDS);
         let words = &mut self.state[process * PROCESS_WORDS..][..PROCESS_WORDS];
-        let depth = words[DEPTH] as usize;
+        let depth = words[DEPTH_AT] as usize;
         let other = nodes.no_statement(random);
         match random.below(10) {
-            0 => words[DEPTH] = random.pick(&[0, 1, 2, 256, 257, 258, 512, u32::MAX]),
-            1 => words[STACK + random.below(PLACES)] = other,
-            2 if depth > 0 => words[STACK] = other,
-            3 if depth > 0 => words[STACK + depth - 1] = other,
+            0 => words[DEPTH_AT] = random.pick(&[0, 1, 2, FULL, FULL + 1, FULL + 2, 512, u32::MAX]),
+            1 => words[STACK_AT + random.below(STACK)] = other,
+            2 if depth > 0 => words[STACK_AT] = other,
+            3 if depth > 0 => words[STACK_AT + depth - 1] = other,
             4 => self.record(process)[0] = random.pick(&[0, 1, 2, 3, 4, 256, u32::MAX]),
             5 => self.record(process)[1] ^= 1 << random.pick(&[0, 0, 1, 4, 8, 31]),
             6 => self.record(process)[2] = random.word(),
             7 => self.record(process)[3] = random.word(),
-            8 => change_length(&mut self.state, &[1, 328, 329], random),
+            8 => change_length(
+                &mut self.state,
+                &[1, PROCESS_WORDS - 1, PROCESS_WORDS],
+                random,
+            ),
             _ => change_length(&mut self.roll, &[1, 2, 3, 4, 64], random),
         }
     }
@@ -172,9 +175,9 @@ impl Nodes {
             (0..kinds.len() as u32).filter(wanted).collect()
         };
         Nodes {
-            statements: of(16, 25),
-            collectives: of(23, 25),
-            expressions: of(0, 12),
+            statements: of(FIRST_STATEMENT, LAST_STATEMENT),
+            collectives: of(23, LAST_STATEMENT),
+            expressions: of(0, LAST_EXPRESSION),
             kinds,
         }
     }

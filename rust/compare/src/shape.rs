@@ -15,8 +15,12 @@ pub const KINDS: [u32; 23] = [
     0, 1, 2, 3, 4, 5, 6, 7, 8, 9, 10, 11, 12, 16, 17, 18, 19, 20, 21, 22, 23, 24, 25,
 ];
 
+pub const LAST_EXPRESSION: u32 = 12;
+pub const FIRST_STATEMENT: u32 = 16;
+pub const LAST_STATEMENT: u32 = 25;
+
 pub fn is_statement(kind: u32) -> bool {
-    kind >= 16
+    kind >= FIRST_STATEMENT
 }
 
 /// A, B and C.

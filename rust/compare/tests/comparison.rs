@@ -1,6 +1,7 @@
 //! The proved library beside the model: the same answers, and the same words after every call.
 
-use finchchaise::{Answer, Refusal, TeamStatus, PROCESS_WORDS, ROLL_WORDS};
+use finchchaise::{Answer, Refusal, TeamStatus};
+use finchchaise::{DOORS, LATCHES, MOST_PROCESSES, PROCESS_WORDS, ROLL_WORDS, SCRATCH_WORDS};
 use finchchaise_compare::{check, latches, MadeUp, Plan, Random, Tally, Team};
 use finchchaise_compare::{damaged, random_bytes, small_table, table};
 use finchchaise_samples::Builder;
@@ -86,7 +87,7 @@ fn start_words(table: &Builder, count: usize, equal: bool, random: &mut Random) 
                 false => random.below(4) as u32,
             });
         }
-        words.extend(random.words(12));
+        words.extend(random.words(DOORS));
     }
     words
 }
@@ -136,7 +137,7 @@ impl Runs {
         let mut team = Team::new(&bytes, &state, &roll);
         self.starts.judged(team.start(count as u32, &words));
         let last = self.steps(&mut team, count, random);
-        let promised = equal && check(&bytes, &[1; 256]).is_ok();
+        let promised = equal && check(&bytes, &[1; SCRATCH_WORDS]).is_ok();
         assert!(!promised || last != TeamStatus::Deadlocked);
     }
 }
@@ -163,12 +164,17 @@ fn runs_of_few_processes() {
 
 #[test]
 fn runs_of_many_processes() {
-    runs("many processes", 7, 4_000, &[5, 6, 8, 11, 15, 16]);
+    runs(
+        "many processes",
+        7,
+        4_000,
+        &[5, 6, 8, 11, 15, MOST_PROCESSES],
+    );
 }
 
 /// As many random words as are asked for, or not quite.
 fn about(count: usize, random: &mut Random) -> Vec<u32> {
-    let wrong = random.pick(&[1, 4, 13, 329]);
+    let wrong = random.pick(&[1, 4, 13, PROCESS_WORDS]);
     let count = match random.below(8) {
         0 => count.saturating_sub(wrong),
         1 => count + wrong,
@@ -188,8 +194,8 @@ fn starts_that_may_be_refused() {
             true => damaged(&table, random),
             false => table.bytes(),
         };
-        let count = random.pick(&[1, 2, 2, 3, 3, 4, 5, 7, 16]);
-        let words = about(count * (table.variables as usize + 12), random);
+        let count = random.pick(&[1, 2, 2, 3, 3, 4, 5, 7, MOST_PROCESSES]);
+        let words = about(count * (table.variables as usize + DOORS), random);
         let state = about(count * PROCESS_WORDS, random);
         let roll = about(count * ROLL_WORDS, random);
         let processes = match random.one_in(12) {
@@ -249,7 +255,7 @@ fn steps_of_made_up_teams() {
 #[test]
 fn latches_of_any_state() {
     let mut random = Random::new(10);
-    let mut copied = [0; 13];
+    let mut copied = [0; LATCHES + 1];
     for _ in 0..LATCH_VIEWS {
         let count = random.below(18);
         let state = about(count * PROCESS_WORDS, &mut random);
@@ -257,11 +263,23 @@ fn latches_of_any_state() {
             true => random.word(),
             false => random.below(count + 2) as u32,
         };
-        let room = random.pick(&[0, 1, 5, 11, 12, 12, 12, 13, 20]);
+        let room = random.pick(&[
+            0,
+            1,
+            5,
+            LATCHES - 1,
+            LATCHES,
+            LATCHES,
+            LATCHES,
+            LATCHES + 1,
+            20,
+        ]);
         copied[latches(&state, process, &vec![7; room])] += 1;
     }
     assert!(
-        [0, 1, 5, 11, 12].iter().all(|&count| copied[count] > 500),
+        [0, 1, 5, LATCHES - 1, LATCHES]
+            .iter()
+            .all(|&count| copied[count] > 500),
         "{copied:?}"
     );
 }

@@ -7,7 +7,7 @@
 //!
 //! ```
 //! use finchchaise::{check, start, step, Event, TeamStatus};
-//! use finchchaise::{PROCESS_WORDS, ROLL_WORDS, SCRATCH_WORDS};
+//! use finchchaise::{DOORS, PROCESS_WORDS, ROLL_WORDS, SCRATCH_WORDS};
 //!
 //! // If there are any processes then a barrier, else nothing; one variable.
 //! let words: [u32; 7] = [
@@ -18,7 +18,7 @@
 //!
 //! let mut state = [0; 2 * PROCESS_WORDS];
 //! let mut roll = [0; 2 * ROLL_WORDS];
-//! start(&table, 2, &[0; 2 * 13], &mut state, &mut roll)?;
+//! start(&table, 2, &[0; 2 * (1 + DOORS)], &mut state, &mut roll)?;
 //! for process in [0, 0, 1] {
 //!     step(&table, &mut state, &mut roll, process)?;
 //! }
@@ -39,18 +39,31 @@ pub use arrival::{Arrival, Status};
 /// The longest table.
 pub const MOST_TABLE_BYTES: usize = 1096;
 pub const MOST_PROCESSES: usize = 16;
-/// Doors of a process; start words are the table's variables and these, for each process.
-pub const DOORS: usize = 12;
-pub const LATCHES: usize = 12;
-/// Words of state for each process.
-pub const PROCESS_WORDS: usize = 329;
 /// Words of roll for each process.
 pub const ROLL_WORDS: usize = 4;
 /// Words of scratch that the checker needs.
 pub const SCRATCH_WORDS: usize = 256;
 
-/// The checker (questions 1 to 17). What the scratch holds before plays no part. Its first 256
-/// words are 0 afterwards, unless there are fewer, which is refused with 1.
+/// The parts of a process's words, in their order: variables first.
+pub const VARIABLES: usize = 32;
+/// The paper's roster.
+pub const GATHERED: usize = 16;
+/// Start words are the table's variables and these, for each process.
+pub const DOORS: usize = 12;
+pub const LATCHES: usize = 12;
+/// Places of the stack, before which its depth stands.
+pub const STACK: usize = 256;
+
+pub const GATHERED_AT: usize = VARIABLES;
+pub const DOORS_AT: usize = GATHERED_AT + GATHERED;
+pub const LATCHES_AT: usize = DOORS_AT + DOORS;
+pub const DEPTH_AT: usize = LATCHES_AT + LATCHES;
+pub const STACK_AT: usize = DEPTH_AT + 1;
+/// Words of state for each process.
+pub const PROCESS_WORDS: usize = STACK_AT + STACK;
+
+/// The checker (questions 1 to 17). What the scratch holds before plays no part. Its first
+/// `SCRATCH_WORDS` are 0 afterwards, unless there are fewer, which is refused with 1.
 pub fn check(table: &[u8], scratch: &mut [u32]) -> Result<(), Refusal> {
     Refusal::judged(raw::check(table, scratch))
 }

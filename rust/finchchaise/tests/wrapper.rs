@@ -3,7 +3,7 @@
 
 use finchchaise::{check, copy_latches, latches, start, step};
 use finchchaise::{Answer, Arrival, Event, Refusal, Status, TeamStatus};
-use finchchaise::{PROCESS_WORDS, ROLL_WORDS, SCRATCH_WORDS};
+use finchchaise::{DOORS, LATCHES_AT, PROCESS_WORDS, ROLL_WORDS, SCRATCH_WORDS};
 
 /// If own number (T1) or number of processes (T2) then barrier else nothing.
 fn table(condition: u32) -> Vec<u8> {
@@ -38,7 +38,7 @@ impl Team {
             roll: vec![7; 2 * ROLL_WORDS],
         };
         let Team { table, state, roll } = &mut team;
-        start(table, 2, &[0; 2 * 13], state, roll).expect("a start");
+        start(table, 2, &[0; 2 * (1 + DOORS)], state, roll).expect("a start");
         team
     }
 
@@ -125,11 +125,13 @@ fn arrivals_are_read_out_of_the_roll() {
 #[test]
 fn latches_are_copied_as_far_as_there_is_room() {
     let state: Vec<u32> = (0..2 * PROCESS_WORDS as u32).collect();
-    assert_eq!(latches(&state, 1).map(|words| words[0]), Some(389));
+    let second = (PROCESS_WORDS + LATCHES_AT) as u32;
+    assert_eq!(latches(&state, 1).map(|words| words[0]), Some(second));
     assert_eq!(latches(&state, 2), None);
     assert_eq!(latches(&state[1..], 0), None);
     let mut out = [7; 3];
     assert_eq!(copy_latches(&state, 0, &mut out[..2]), 2);
-    assert_eq!(out, [60, 61, 7]);
+    let first = LATCHES_AT as u32;
+    assert_eq!(out, [first, first + 1, 7]);
     assert_eq!(copy_latches(&state, 0, &mut []), 0);
 }

@@ -3,10 +3,10 @@
 use crate::refusal::{ask_each, Refusal};
 use crate::table::{Kind, Table};
 
-const SCRATCH_WORDS: usize = 256;
+pub const SCRATCH_WORDS: usize = 256;
 
 /// The checker: questions 1 to 17. The judgements need no scratch here, so its
-/// first 256 words are only set to 0 as promised.
+/// first words are only set to 0 as promised.
 pub fn check(table: &[u8], scratch: &mut [u32]) -> Result<(), Refusal> {
     scratch
         .get_mut(..SCRATCH_WORDS)

@@ -2,21 +2,26 @@
 
 use crate::table::{Kind, Table};
 
-pub const PROCESS_WORDS: usize = 329;
-const LATCHES_BEGIN: usize = 60;
-const LATCHES_END: usize = 72;
+const VARIABLES: usize = 32;
+const GATHERED: usize = 16;
+pub const DOORS: usize = 12;
+const LATCHES: usize = 12;
+const STACK: usize = 256;
+const LATCHES_BEGIN: usize = VARIABLES + GATHERED + DOORS;
+const LATCHES_END: usize = LATCHES_BEGIN + LATCHES;
+pub const PROCESS_WORDS: usize = LATCHES_END + 1 + STACK;
 
 pub struct Process {
     pub number: u32,
     pub count: u32,
-    pub variables: [u32; 32],
+    pub variables: [u32; VARIABLES],
     /// The paper's roster.
-    pub gathered: [u32; 16],
-    pub doors: [u32; 12],
-    pub latches: [u32; 12],
+    pub gathered: [u32; GATHERED],
+    pub doors: [u32; DOORS],
+    pub latches: [u32; LATCHES],
     pub depth: u32,
     /// Statement nodes, first entry lowest; places above the depth keep their words.
-    pub stack: [u32; 256],
+    pub stack: [u32; STACK],
 }
 
 impl Process {
@@ -24,12 +29,12 @@ impl Process {
         Process {
             number: number as u32,
             count: count as u32,
-            variables: [0; 32],
-            gathered: [0; 16],
-            doors: [0; 12],
-            latches: [0; 12],
+            variables: [0; VARIABLES],
+            gathered: [0; GATHERED],
+            doors: [0; DOORS],
+            latches: [0; LATCHES],
             depth: 0,
-            stack: [0; 256],
+            stack: [0; STACK],
         }
     }
 

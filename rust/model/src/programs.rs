@@ -1,7 +1,7 @@
 //! The text of the check program and of the run program.
 
 use crate::arrival::Arrival;
-use crate::judgement::check;
+use crate::judgement::{check, SCRATCH_WORDS};
 use crate::process::PROCESS_WORDS;
 use crate::refusal::Refusal;
 use crate::table::words_of;
@@ -11,7 +11,7 @@ const MOST_INPUT: usize = 32_768;
 
 /// What the check program prints for its input.
 pub fn check_table(input: &[u8]) -> String {
-    match check(input, &mut [0; 256]) {
+    match check(input, &mut [0; SCRATCH_WORDS]) {
         Ok(()) => "accepted\n".to_string(),
         Err(refusal) => format!("{refusal}\n"),
     }

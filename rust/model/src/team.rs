@@ -1,12 +1,11 @@
 //! The team (the paper's site): start, step and questions 18 to 24.
 
 use crate::arrival::{common_node, Arrival, Status};
-use crate::process::{Process, PROCESS_WORDS};
+use crate::process::{Process, DOORS, PROCESS_WORDS};
 use crate::refusal::{ask, ask_at, ask_each, Refusal};
 use crate::table::{Kind, Table};
 
 const MOST_PROCESSES: usize = 16;
-const DOORS: usize = 12;
 
 /// What happened to the process that was asked for.
 #[derive(Clone, Copy, Debug, PartialEq, Eq)]

@@ -12,8 +12,11 @@ const T1: [u32; 7] = [
 const RUNNING: Arrival = arrival(Status::Running, 0, 0, 0);
 const ENDED: Arrival = arrival(Status::Ended, 0, 0, 0);
 const MARK: u32 = 0xABCD;
-const DEPTH: usize = 72;
-const STACK: usize = 73;
+const GATHERED: usize = 32;
+const DOORS: usize = GATHERED + 16;
+const LATCHES: usize = DOORS + 12;
+const DEPTH: usize = LATCHES + 12;
+const STACK: usize = DEPTH + 1;
 
 const fn arrival(status: Status, node: u32, value: u32, source: u32) -> Arrival {
     Arrival {
@@ -77,7 +80,7 @@ fn latched(expression: &[[u32; 4]]) -> u32 {
     nodes.extend([[0, 0, 0, 0], [22, last, last - 1, 0]]);
     let table = table_of(&nodes);
     let (mut state, mut arrivals) = started(&table, 1, &[0, 4, 0, 0, 0, 0, 0, 0, 0, 0, 0, 0, 9]);
-    state[32..34].copy_from_slice(&[6, MARK]);
+    state[GATHERED..GATHERED + 2].copy_from_slice(&[6, MARK]);
     step(&table, &mut state, &mut arrivals, 0).expect("a step");
     latches(&state, 0)[0]
 }
@@ -188,7 +191,7 @@ fn start_fills_every_word() {
     for (process, given) in words.chunks(13).enumerate() {
         let mut expected = [0; PROCESS_WORDS];
         expected[0] = given[0];
-        expected[48..60].copy_from_slice(&given[1..]);
+        expected[DOORS..LATCHES].copy_from_slice(&given[1..]);
         expected[DEPTH..STACK + 1].copy_from_slice(&[1, 3]);
         assert_eq!(state[process * PROCESS_WORDS..][..PROCESS_WORDS], expected);
     }
@@ -207,11 +210,11 @@ fn refused_starts_change_nothing() {
     };
     assert_eq!(refused(&[], 17, 0, 0, 0), 2);
     for processes in [0, 17, u32::MAX] {
-        assert_eq!(refused(&t2(), processes, 13, 329, 1), 18);
+        assert_eq!(refused(&t2(), processes, 13, PROCESS_WORDS, 1), 18);
     }
-    assert_eq!(refused(&t2(), 1, 12, 328, 2), 19);
-    assert_eq!(refused(&t2(), 1, 13, 328, 2), 20);
-    assert_eq!(refused(&t2(), 1, 13, 329, 2), 21);
+    assert_eq!(refused(&t2(), 1, 12, PROCESS_WORDS - 1, 2), 19);
+    assert_eq!(refused(&t2(), 1, 13, PROCESS_WORDS - 1, 2), 20);
+    assert_eq!(refused(&t2(), 1, 13, PROCESS_WORDS, 2), 21);
 }
 
 #[test]
@@ -298,7 +301,7 @@ fn collectives_use_each_process_own_source_and_fill_alike() {
     let (mut state, mut arrivals) = started(&table, 3, &[0; 39]);
     let mut answers = Vec::new();
     for process in [0, 1, 2, 0, 1, 2, 0, 1, 2] {
-        state[32 + 3] = MARK;
+        state[GATHERED + 3] = MARK;
         answers.push(step(&table, &mut state, &mut arrivals, process).expect("a step"));
     }
     let event = |place: usize| answers[place].event;
@@ -312,7 +315,7 @@ fn collectives_use_each_process_own_source_and_fill_alike() {
     );
     assert_eq!(answers[8].team, TeamStatus::Done);
     assert_eq!(arrivals, [ENDED; 3]);
-    assert_eq!(state[32..37], [5, 6, 7, MARK, 0]);
+    assert_eq!(state[GATHERED..GATHERED + 5], [5, 6, 7, MARK, 0]);
     let variable = |process: usize| state[process * PROCESS_WORDS];
     assert_eq!([variable(0), variable(1), variable(2)], [1, 2, 0]);
 }
@@ -320,8 +323,9 @@ fn collectives_use_each_process_own_source_and_fill_alike() {
 #[test]
 fn latches_are_part_of_the_lent_state() {
     let state: Vec<u32> = (0..2 * PROCESS_WORDS as u32).collect();
-    assert_eq!(latches(&state, 0), &state[60..72]);
-    assert_eq!(latches(&state, 1), &state[389..401]);
+    assert_eq!(latches(&state, 0), &state[LATCHES..DEPTH]);
+    let second = &state[PROCESS_WORDS..];
+    assert_eq!(latches(&state, 1), &second[LATCHES..DEPTH]);
     assert!(latches(&state, 2).is_empty());
     assert!(latches(&state, usize::MAX).is_empty());
     assert!(latches(&state[1..], 0).is_empty());

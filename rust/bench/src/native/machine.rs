@@ -7,10 +7,11 @@ use finchchaise::{Answer, Event, Refusal, TeamStatus};
 use finchchaise::{DOORS, LATCHES, MOST_PROCESSES, PROCESS_WORDS, ROLL_WORDS};
 
 const GATHERED: usize = 32;
-const DOORS_BEGIN: usize = 48;
-const LATCHES_BEGIN: usize = 60;
-const DEPTH: usize = 72;
-const STACK: usize = 73;
+const GATHERED_PLACES: usize = 16;
+const DOORS_BEGIN: usize = GATHERED + GATHERED_PLACES;
+const LATCHES_BEGIN: usize = DOORS_BEGIN + DOORS;
+const DEPTH: usize = LATCHES_BEGIN + LATCHES;
+const STACK: usize = DEPTH + 1;
 const STACK_PLACES: usize = PROCESS_WORDS - STACK;
 
 const RUNNING: u32 = 0;
