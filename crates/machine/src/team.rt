@@ -21,8 +21,8 @@ use rules::layout::ARRIVAL_WORDS;
 use rules::layout::LATCH_PLACES;
 use rules::layout::LATCHES_AT;
 use rules::layout::PROCESS_WORDS;
-use rules::layout::SCRATCH_WORDS;
-use scan::well_formed;
+use sweep::PLANE_WORDS;
+use sweep::well_formed;
 use table::words::header;
 
 fn start_formed(
@@ -60,8 +60,8 @@ pub fn start(
         (started (now (table .entry)) processes (now (words .entry)) (now (state .entry)) (now (roll .entry)))
         r (now (state .exit)) (now (roll .exit)) ⌝ }
 {
-    let mut facts = [0u32; SCRATCH_WORDS];
-    let formed = well_formed(table, &mut facts);
+    let mut planes = [0u32; PLANE_WORDS];
+    let formed = well_formed(table, &mut planes);
     match formed {
         Verdict::Refused(refusal) => Verdict::Refused(refusal),
         Verdict::Accepted => start_formed(table, processes, words, state, roll),
@@ -101,8 +101,8 @@ pub fn step(table: &[u8], state: &mut [u32], roll: &mut [u32], process: u32) -> 
     ensures { λ r. ⌜ Gives (stepped (now (table .entry)) (now (state .entry)) (now (roll .entry)) process)
         r (now (state .exit)) (now (roll .exit)) ⌝ }
 {
-    let mut facts = [0u32; SCRATCH_WORDS];
-    let formed = well_formed(table, &mut facts);
+    let mut planes = [0u32; PLANE_WORDS];
+    let formed = well_formed(table, &mut planes);
     match formed {
         Verdict::Refused(refusal) => Stepped::Refused(refusal),
         Verdict::Accepted => step_formed(table, state, roll, process),

@@ -2,7 +2,7 @@
 use mathlib.Core.Bool.{true, false}
 use mathlib.Core.List.{List}
 use mathlib.Core.Logic.{⊎-elim}
-use mathlib.Core.Path.{_≡_, sym, _∙_, ap}
+use mathlib.Core.Path.{_≡_, refl, sym, _∙_, ap}
 use Prim.Native.Nat.{ℕ, _+_, _-_, _*_, _/_, _%_, _^_, _≤_, _<_}
 use native.Mathlib.Decide.{decLt, ℕ-discrete}
 use native.Mathlib.Nat.{add-div-right, add-mul-div-left, zero-div, one-mul}
@@ -12,7 +12,8 @@ use lib.ListN.{length, getD, set, replicate, length-set, length-replicate, getD-
 use lib.Pow.{pow-pos, pow-add, shl-exact, shr-shr}
 use lib.Seq.{getD-set-same, getD-set-other, set-out}
 use borrow.Author.Tests.{eq-eqb, eqb-false}
-use Rattle.rules.proofs.ChoiceLaws.{bool-cases}
+use Rattle.rules.specs.Choice.{firstFailing, allBelow}
+use Rattle.rules.proofs.ChoiceLaws.{bool-cases, all-at}
 use Rattle.table.specs.Marks.{hasBit, bitAt, withBit}
 
 -- a word's bit k is clear: what its places are after 2 ^ k is added
@@ -26,7 +27,7 @@ module _ (w k : ℕ) (clear : hasBit w k ≡ false) where
   at-place = add-div-right w (pow-pos k)
 
   -- the places above stay
-  pub above-place : (d : ℕ) → (w + 2 ^ k) / 2 ^ (k + (1 + d)) ≡ w / 2 ^ (k + (1 + d))
+  above-place : (d : ℕ) → (w + 2 ^ k) / 2 ^ (k + (1 + d)) ≡ w / 2 ^ (k + (1 + d))
   above-place d =
       let q = w / 2 ^ k in
       let halves : (q + 1) / 2 ≡ q / 2 = omega (arith, even) in
@@ -143,6 +144,18 @@ bit-zero count k =
 pub bit-clear : (m : List ℕ) (n : ℕ) → bitAt m n ≡ false → hasBit (getD m (n / 32) 0) (n % 32) ≡ false
 unfolding bitAt
 bit-clear m n e = e
+
+-- a word in which every bit is set
+
+all-full : allBelow (hasBit 4294967295) 32 ≡ true
+unfolding allBelow firstFailing hasBit
+all-full = refl
+
+pub bits-full : (m : List ℕ) (n k : ℕ) → n % 32 ≡ 0 → getD m (n / 32) 0 ≡ 4294967295 → n ≤ k → k < n + 32 → bitAt m k ≡ true
+unfolding bitAt
+bits-full m n k whole full from to =
+    let word : k / 32 ≡ n / 32 = omega arith in
+    rw (word, full) (all-at (hasBit 4294967295) 32 all-full (k % 32) (omega arith))
 
 -- words cleared, of a known number
 pub cleared : {n : ℕ} (after m : List ℕ) → after ≡ replicate (length m) 0 → length m ≡ n → after ≡ replicate n 0

@@ -1,42 +1,43 @@
--- What the questions up to 10 say of the parts of a node and of the bodies: each lies below what names it.
-use mathlib.Core.Bool.{Bool, true, false, _&&_, _||_}
+-- What questions 6 and 9 say of bodies and of the parts of a node: each lies below what names it.
+use mathlib.Core.Bool.{true, false, _&&_}
 use mathlib.Core.List.{List}
 use mathlib.Core.Logic.{⊎-elim}
 use mathlib.Core.Path.{_≡_, sym, _∙_}
 use Prim.Native.Nat.{ℕ, _<_, _^_, _%_}
 use lib.Dec.{ltb, eqb}
 use borrow.Author.Tests.{eqb-true, ltb-true}
+use Rattle.rules.specs.declared.Node.{Node}
 use Rattle.rules.specs.declared.Verdict.the-variants.{Accepted}
 use Rattle.rules.specs.Table.{procedures, nodes, body, nodeAt, procedureWord}
 use Rattle.rules.specs.WellFormed.{nodeFits, isExpression, isStatement, expressionPart, statementPart, procedureFits}
-use Rattle.rules.specs.WellFormed.{question6, question7, question8, question9}
-use Rattle.rules.proofs.AnswerLaws.{both-left, both-right, then-first, then-rest, each-passed}
+use Rattle.rules.specs.WellFormed.{question6, question9}
+use Rattle.rules.proofs.AnswerLaws.{both-left, both-right, each-passed}
 use Rattle.rules.proofs.ChoiceLaws.{bool-cases}
 use Rattle.table.specs.declared.Header.{Header}
-use Rattle.table.specs.Roles.{roleOf, fieldFits, contentsVerdict}
+use Rattle.table.specs.Roles.{roleOf, isPart, fieldFits}
 use Rattle.table.specs.Sized.{Sized}
 use Rattle.table.specs.Uses.{Fitting}
 use Rattle.table.proofs.RoleLaws.{fits-law}
+use Rattle.table.proofs.TestLaws.{all-three}
 
-pub fitting : (table : List ℕ) (header : Header) → Sized table header → contentsVerdict table ≡ Accepted
+pub body-low : (table : List ℕ) (p : ℕ) → procedureFits table p ≡ true → body table p < nodes table
+unfolding procedureFits
+body-low table p fits =
+    ltb-true (body table p) (nodes table) (both-right (eqb (procedureWord table p % 2 ^ 23) 0) _ fits)
+
+pub fitting : (table : List ℕ) (header : Header) → Sized table header → question6 table ≡ Accepted
+    → question9 table ≡ Accepted
     → Fitting table header
-unfolding contentsVerdict procedureFits
-fitting table header s e =
-    let after6 = then-rest (question6 table) _ e in
-    let after7 = then-rest (question7 table) _ after6 in
-    let after8 = then-rest (question8 table) _ after7 in
+fitting table header s passed6 passed9 =
     record {
       sized = s;
-      bodies = λ p l.
-          ltb-true (body table p) (nodes table)
-          (both-right (eqb (procedureWord table p % 2 ^ 23) 0) _
-          (each-passed 6 (procedures table) (procedureFits table) (then-first (question6 table) _ e) p l));
-      fits = each-passed 9 (nodes table) (nodeFits table) (then-first (question9 table) _ after8);
+      bodies = λ p l. body-low table p (each-passed 6 (procedures table) (procedureFits table) passed6 p l);
+      fits = each-passed 9 (nodes table) (nodeFits table) passed9;
     }
 
 -- a part that fits lies below its node
-part-below : (table : List ℕ) (n role value : ℕ) → fieldFits table n role value ≡ true
-    → (eqb role 2 || eqb role 3) ≡ true
+pub part-below : (table : List ℕ) (n role value : ℕ) → fieldFits table n role value ≡ true
+    → isPart role ≡ true
     → value < n
 unfolding fieldFits expressionPart statementPart
 part-below table n role value fits part =
@@ -51,33 +52,13 @@ part-below table n role value fits part =
     ltb-true value n (both-left (ltb value n) (isStatement table value) here))
     (bool-cases (eqb role 2))
 
-module _ (table : List ℕ) (header : Header) (f : Fitting table header) (n : ℕ) (l : n < nodes table) where
-  abbrev a-fits : Bool
-  a-fits = fieldFits table n (roleOf (nodeAt table n .kind) 100) (nodeAt table n .a)
+-- the fields of a node that fits
+module _ (table : List ℕ) (n : ℕ) (fits : nodeFits table n ≡ true) where
+  abbrev m : Node
+  m = nodeAt table n
 
-  abbrev b-fits : Bool
-  b-fits = fieldFits table n (roleOf (nodeAt table n .kind) 10) (nodeAt table n .b)
+  abbrev Fits : ℕ → ℕ → Type 0
+  Fits place value = fieldFits table n (roleOf (m .kind) place) value ≡ true
 
-  abbrev c-fits : Bool
-  c-fits = fieldFits table n (roleOf (nodeAt table n .kind) 1) (nodeAt table n .c)
-
-  fields : (a-fits && (b-fits && c-fits)) ≡ true
-  fields = sym (fits-law table n) ∙ f .fits n l
-
-  later : (b-fits && c-fits) ≡ true
-  later = both-right a-fits (b-fits && c-fits) fields
-
-  -- each field that names a part
-  pub a-below : (eqb (roleOf (nodeAt table n .kind) 100) 2 || eqb (roleOf (nodeAt table n .kind) 100) 3) ≡ true
-      → nodeAt table n .a < n
-  a-below =
-      part-below table n (roleOf (nodeAt table n .kind) 100) (nodeAt table n .a)
-      (both-left a-fits (b-fits && c-fits) fields)
-
-  pub b-below : (eqb (roleOf (nodeAt table n .kind) 10) 2 || eqb (roleOf (nodeAt table n .kind) 10) 3) ≡ true
-      → nodeAt table n .b < n
-  b-below = part-below table n (roleOf (nodeAt table n .kind) 10) (nodeAt table n .b) (both-left b-fits c-fits later)
-
-  pub c-below : (eqb (roleOf (nodeAt table n .kind) 1) 2 || eqb (roleOf (nodeAt table n .kind) 1) 3) ≡ true
-      → nodeAt table n .c < n
-  c-below = part-below table n (roleOf (nodeAt table n .kind) 1) (nodeAt table n .c) (both-right b-fits c-fits later)
+  pub fields-fit : Fits 100 (m .a) × Fits 10 (m .b) × Fits 1 (m .c)
+  fields-fit = all-three _ _ _ (sym (fits-law table n) ∙ fits)

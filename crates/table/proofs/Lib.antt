@@ -1,4 +1,5 @@
 -- Laws that the proofs of this crate share.
+pub mod TestLaws
 pub mod BitLaws
 pub mod ShapeLaws
 pub mod RoleLaws
@@ -6,7 +7,3 @@ pub mod PlaceLaws
 pub mod UseLaws
 pub mod OnceLaws
 pub mod FittingLaws
-pub mod TreeLaws
-pub mod WalkLaws
-pub mod CallLaws
-pub mod FormedLaws

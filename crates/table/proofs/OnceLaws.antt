@@ -2,7 +2,7 @@
 -- The law of the first place that fails either of two tests serves question 12 too.
 use mathlib.Core.Bool.{Bool, true, false, _&&_, and-false}
 use mathlib.Core.List.{List}
-use mathlib.Core.Logic.{_⊎_, ⊎-elim}
+use mathlib.Core.Logic.{⊎-elim}
 use mathlib.Core.Path.{_≡_, sym, _∙_}
 use Prim.Native.Nat.{ℕ, _+_, _≤_, _<_, min}
 use native.Mathlib.Decide.{decLt}
@@ -11,13 +11,12 @@ use lib.Dec.{leb, ltb, eqb}
 use lib.ListN.{replicate}
 use borrow.Author.Tests.{ne-eqb, le-ltb, le-leb, lt-leb}
 use Rattle.rules.specs.Choice.{firstFailing}
-use Rattle.rules.specs.Table.{nodes}
-use Rattle.rules.specs.WellFormed.{uses, occurrences, usedOnce}
+use Rattle.rules.specs.WellFormed.{occurrences}
 use Rattle.rules.proofs.ChoiceLaws.{Passed, first-none, first-at, first-le, first-passed, first-fails}
 use Rattle.table.specs.Marks.{bitAt, withBits}
-use Rattle.table.specs.Uses.{repeated, Noting, partUses, bodyUses}
+use Rattle.table.specs.Uses.{repeated}
 use Rattle.table.proofs.BitLaws.{bit-zero}
-use Rattle.table.proofs.UseLaws.{marked, lowest, bits-at, bits-append, repeated-append}
+use Rattle.table.proofs.UseLaws.{marked, lowest, bits-at}
 
 -- the first place that fails either of two tests
 module _ (first second both : ℕ → Bool) (n : ℕ) (split : (k : ℕ) → k < n → both k ≡ (first k && second k)) where
@@ -104,20 +103,3 @@ module _ (list : List ℕ) (n : ℕ) (few : n ≤ 256) where
       rw repeated-first
       (sym
       (first-both (bitAt (withBits zeros list)) (λ k. leb (occurrences k list) 1) (λ k. eqb (occurrences k list) 1) n split))
-
--- the uses are the parts of all nodes, then the bodies
-module _ (table : List ℕ) (few : nodes table ≤ 256) where
-  pub once-answer : (marks m1 m2 : List ℕ) (r1 r2 unmarked r count : ℕ) → marks ≡ zeros → count ≡ nodes table
-      → Noting marks (nodes table) (partUses table) r1 m1
-      → Noting m1 r1 (bodyUses table) r2 m2
-      → unmarked ≡ firstFailing (bitAt m2) count → r ≡ min unmarked r2
-      → r ≡ firstFailing (usedOnce table) (nodes table)
-  unfolding usedOnce uses
-  once-answer marks m1 m2 r1 r2 unmarked r count zero counted first second third last =
-      let all : m2 ≡ withBits zeros (uses table) =
-      second .1 ∙ simp (first .1, zero) (sym (bits-append zeros (partUses table) (bodyUses table))) in
-      let low : r2 ≡ repeated zeros (nodes table) (uses table) =
-      second .0
-      ∙ simp (first .1, first .0, zero)
-      (sym (repeated-append zeros (nodes table) (partUses table) (bodyUses table))) in
-      last ∙ simp (third, counted, all, low) (once-first (uses table) (nodes table) few)

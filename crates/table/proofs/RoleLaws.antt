@@ -1,23 +1,19 @@
 -- The roles of a node's fields say the same as the definitions of questions 8, 9 and 11 by kind: one law each, at every kind.
-use mathlib.Core.Bool.{true, false, cond, not, _&&_, _||_, and-true, and-assoc, or-true}
+use mathlib.Core.Bool.{false, _&&_, and-true, and-assoc}
 use mathlib.Core.List.{List, _++_}
-use mathlib.Core.Path.{_≡_, refl, sym}
-use Prim.Native.Nat.{ℕ, zero, suc, _+_, _-_, _≤_, _<_}
+use mathlib.Core.Path.{_≡_, refl}
+use Prim.Native.Nat.{ℕ, zero, suc, _-_, _≤_, _<_}
 use native.Mathlib.Decide.{decLt}
 use native.Mathlib.Nat.{zero-div}
 use native.Mathlib.Omega.{arith}
-use lib.Dec.{ltb, eqb}
+use lib.Dec.{eqb}
 use borrow.Author.Tests.{ne-eqb}
 use lib.ListN.{getD, List·getD-eq-default}
 use Rattle.rules.specs.declared.Node.{Node}
-use Rattle.rules.specs.Choice.{allBelow}
-use Rattle.rules.specs.Table.{procedures, body}
 use Rattle.rules.specs.Table.{constant, nothing, nodeAt, expressionOf, statementOf, expressionAt, statementAt}
 use Rattle.rules.specs.WellFormed.{namedFields, unnamedZero, expressionFits, collectiveFits, statementFits, nodeFits}
-use Rattle.rules.specs.WellFormed.{expressionParts, collectiveParts, statementParts, partsAt, inTree, calledBelow}
-use Rattle.rules.proofs.ChoiceLaws.{all-true}
+use Rattle.rules.specs.WellFormed.{expressionParts, collectiveParts, statementParts, partsAt}
 use Rattle.table.specs.Roles.{roles, roleOf, fieldZero, fieldFits, fieldParts}
-use Rattle.table.specs.Uses.{callsBelow, ownCalls}
 
 -- P holds of each kind 0 to 25, and of those above, so of every kind
 data Each (P : ℕ → Type 0) : ℕ → Type 0 where
@@ -74,13 +70,13 @@ ZeroAt k =
 zero-known : Each ZeroAt 26
 unfolding unnamedZero namedFields roleOf roles fieldZero
 zero-known =
-    none also (λ a b c. simp (and-true, and-assoc)) also (λ a b c. refl) also (λ a b c. simp (and-true, and-assoc))
-    also (λ a b c. simp (and-true, and-assoc)) also (λ a b c. refl) also (λ a b c. refl) also (λ a b c. refl)
+    none also (λ a b c. simp and-true) also (λ a b c. refl) also (λ a b c. simp and-assoc)
+    also (λ a b c. simp and-assoc) also (λ a b c. refl) also (λ a b c. refl) also (λ a b c. refl)
     also (λ a b c. refl) also (λ a b c. refl) also (λ a b c. refl) also (λ a b c. refl) also (λ a b c. refl)
-    also (λ a b c. refl) also (λ a b c. simp (and-true, and-assoc)) also (λ a b c. simp (and-true, and-assoc))
-    also (λ a b c. simp (and-true, and-assoc)) also (λ a b c. simp (and-true, and-assoc)) also (λ a b c. refl)
+    also (λ a b c. refl) also (λ a b c. simp and-assoc) also (λ a b c. simp and-assoc)
+    also (λ a b c. simp and-assoc) also (λ a b c. simp and-assoc) also (λ a b c. refl)
     also (λ a b c. refl) also (λ a b c. refl) also (λ a b c. refl) also (λ a b c. refl) also (λ a b c. refl)
-    also (λ a b c. simp (and-true, and-assoc)) also (λ a b c. refl) also (λ a b c. refl)
+    also (λ a b c. simp and-assoc) also (λ a b c. refl) also (λ a b c. refl)
 
 zero-unknown : (k : ℕ) → 26 ≤ k → ZeroAt k
 unfolding unnamedZero fieldZero
@@ -104,16 +100,16 @@ module _ (table : List ℕ) (n : ℕ) where
   fits-known : Each FitsAt 26
   unfolding expressionOf statementOf expressionFits collectiveFits statementFits roleOf roles fieldFits
   fits-known =
-      none also (λ a b c. refl) also (λ a b c. simp (and-true, and-assoc)) also (λ a b c. refl) also (λ a b c. refl)
-      also (λ a b c. simp (and-true, and-assoc)) also (λ a b c. simp (and-true, and-assoc))
-      also (λ a b c. simp (and-true, and-assoc)) also (λ a b c. simp (and-true, and-assoc))
-      also (λ a b c. simp (and-true, and-assoc)) also (λ a b c. simp (and-true, and-assoc))
-      also (λ a b c. simp (and-true, and-assoc)) also (λ a b c. simp (and-true, and-assoc))
-      also (λ a b c. simp (and-true, and-assoc)) also (λ a b c. refl) also (λ a b c. refl) also (λ a b c. refl)
-      also (λ a b c. refl) also (λ a b c. simp (and-true, and-assoc)) also (λ a b c. simp (and-true, and-assoc))
-      also (λ a b c. simp (and-true, and-assoc)) also (λ a b c. simp (and-true, and-assoc))
-      also (λ a b c. simp (and-true, and-assoc)) also (λ a b c. simp (and-true, and-assoc)) also (λ a b c. refl)
-      also (λ a b c. simp (and-true, and-assoc)) also (λ a b c. simp (and-true, and-assoc))
+      none also (λ a b c. refl) also (λ a b c. simp and-true) also (λ a b c. refl) also (λ a b c. refl)
+      also (λ a b c. simp and-true) also (λ a b c. simp and-true)
+      also (λ a b c. simp and-true) also (λ a b c. simp and-true)
+      also (λ a b c. simp and-true) also (λ a b c. simp and-true)
+      also (λ a b c. simp and-true) also (λ a b c. simp and-true)
+      also (λ a b c. simp and-true) also (λ a b c. refl) also (λ a b c. refl) also (λ a b c. refl)
+      also (λ a b c. refl) also (λ a b c. simp and-true) also (λ a b c. simp and-true)
+      also (λ a b c. simp and-assoc) also (λ a b c. simp and-true)
+      also (λ a b c. simp and-true) also (λ a b c. simp and-true) also (λ a b c. refl)
+      also (λ a b c. simp and-assoc) also (λ a b c. simp and-true)
 
   fits-unknown : (k : ℕ) → 26 ≤ k → FitsAt k
   unfolding expressionFits statementFits fieldFits
@@ -161,35 +157,3 @@ unfolding partsAt expressionAt statementAt
 parts-law table n =
     let m = nodeAt table n in
     each-kind PartsAt parts-known parts-unknown (m .kind) (m .a) (m .b) (m .c)
-
--- question 12: a node that is no call passes
-abbrev CallAt : ℕ → Type 0
-CallAt k =
-    (table : List ℕ) (n a b c : ℕ)
-    → calledBelow table n (statementOf (node k a b c))
-    ≡ allBelow (λ p. not (inTree table n (body table p)) || cond (eqb k 21) (ltb a p) true) (procedures table)
-
-no-call : (table : List ℕ) (n a b c : ℕ)
-    → true ≡ allBelow (λ p. not (inTree table n (body table p)) || true) (procedures table)
-no-call table n a b c = sym (all-true _ (procedures table) (λ p l. or-true (not (inTree table n (body table p)))))
-
-call-known : Each CallAt 26
-unfolding statementOf calledBelow
-call-known =
-    none also no-call also no-call also no-call also no-call also no-call also no-call also no-call also no-call
-    also no-call also no-call also no-call also no-call also no-call also no-call also no-call also no-call
-    also no-call also no-call also no-call also no-call also no-call also (λ t n a b c. refl) also no-call
-    also no-call also no-call also no-call
-
-call-unknown : (k : ℕ) → 26 ≤ k → CallAt k
-unfolding calledBelow
-call-unknown k h table n a b c =
-    let other : eqb k 21 ≡ false = ne-eqb k 21 (λ e. omega arith) in
-    simp (statement-unknown k a b c h, other) (no-call table n a b c)
-
-pub call-law : (table : List ℕ) (n : ℕ)
-    → calledBelow table n (statementAt table n) ≡ allBelow (λ p. ownCalls table p n) (procedures table)
-unfolding statementAt ownCalls callsBelow
-call-law table n =
-    let m = nodeAt table n in
-    each-kind CallAt call-known call-unknown (m .kind) table n (m .a) (m .b) (m .c)

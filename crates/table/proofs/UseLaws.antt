@@ -2,23 +2,18 @@
 use mathlib.Core.Bool.{true, false, cond, _||_, or-false, or-true}
 use mathlib.Core.List.{List, [], _∷_, _++_}
 use mathlib.Core.Logic.{_⊎_, inl, inr, ⊎-elim}
-use mathlib.Core.Path.{_≡_, refl, sym, _∙_, ap}
+use mathlib.Core.Path.{_≡_, refl, sym, _∙_}
 use Prim.Native.Nat.{ℕ, _+_, _*_, _≤_, _<_, min}
 use native.Mathlib.Decide.{decLt, ℕ-discrete}
 use native.Mathlib.Nat.{zero-add}
-use native.Mathlib.Numerals.{add-one}
 use native.Mathlib.Omega.{arith}
 use lib.Dec.{ltb, eqb}
 use lib.ListN.{length}
 use borrow.Author.Tests.{eq-eqb, ne-eqb, lt-ltb}
 use Rattle.rules.proofs.ChoiceLaws.{bool-cases}
-use Rattle.rules.specs.WellFormed.{partsAt, joined, occurrences}
-use Rattle.rules.specs.Table.{nodeAt}
-use Rattle.rules.specs.declared.Node.{Node}
+use Rattle.rules.specs.WellFormed.{occurrences}
 use Rattle.table.specs.Marks.{bitAt, withBit, withBits}
-use Rattle.table.specs.Roles.{roleOf, fieldParts}
-use Rattle.table.specs.Uses.{noted, repeated, Noting}
-use Rattle.table.proofs.RoleLaws.{parts-law}
+use Rattle.table.specs.Uses.{noted, repeated}
 use Rattle.table.proofs.BitLaws.{length-withBit, bit-same, bit-other}
 
 -- one list after another
@@ -172,49 +167,3 @@ bits-at m (n ∷ u) k inside =
           let apart : eqb n k ≡ false = ne-eqb n k (λ e. other (sym e)) in
           rest ∙ simp (bit-other m n k other, apart, zero-add)
     ]
-
--- one more node of a list that grows at its end
-pub bits-more : (m : List ℕ) (list : ℕ → List ℕ) (i : ℕ)
-    → withBits m (joined list (i + 1)) ≡ withBits (withBits m (joined list i)) (list i)
-unfolding joined
-bits-more m list i = rw (add-one i) (bits-append m (joined list i) (list i))
-
-pub repeated-more : (m : List ℕ) (low : ℕ) (list : ℕ → List ℕ) (i : ℕ)
-    → repeated m low (joined list (i + 1)) ≡ repeated (withBits m (joined list i)) (repeated m low (joined list i)) (list i)
-unfolding joined
-repeated-more m low list i = rw (add-one i) (repeated-append m low (joined list i) (list i))
-
--- the three fields of a node are its parts
-pub three-fields : (table : List ℕ) (n : ℕ) (m : Node) (marks m1 m2 m3 : List ℕ) (low r1 r2 r3 ra rb rc : ℕ)
-    → m ≡ nodeAt table n → ra ≡ roleOf (m .kind) 100 → rb ≡ roleOf (m .kind) 10 → rc ≡ roleOf (m .kind) 1
-    → Noting marks low (fieldParts ra (m .a)) r1 m1
-    → Noting m1 r1 (fieldParts rb (m .b)) r2 m2
-    → Noting m2 r2 (fieldParts rc (m .c)) r3 m3
-    → Noting marks low (partsAt table n) r3 m3
-three-fields table n m marks m1 m2 m3 low r1 r2 r3 ra rb rc node a b c first second third =
-    let parts : partsAt table n ≡ fieldParts ra (m .a) ++ (fieldParts rb (m .b) ++ fieldParts rc (m .c)) =
-    simp (a, b, c, node) (parts-law table n) in (
-      third .0 ∙ simp (parts, repeated-append, second .1, second .0, first .1, first .0),
-      third .1 ∙ simp (parts, bits-append, second .1, first .1),
-    )
-
--- marks and lowest repeated node after the lists 0 to i - 1
-abbrev pub Noted : List ℕ → ℕ → (ℕ → List ℕ) → ℕ → ℕ → List ℕ → Type 0
-Noted m low list i r after = Noting m low (joined list i) r after
-
-pub noted-none : (m : List ℕ) (low : ℕ) (list : ℕ → List ℕ) → Noted m low list 0 low m
-unfolding joined withBits repeated
-noted-none m low list = (refl, refl)
-
-pub noted-more : (m : List ℕ) (low : ℕ) (list : ℕ → List ℕ) (i r r' : ℕ) (after after' : List ℕ)
-    → Noted m low list i r after → Noting after r (list i) r' after'
-    → Noted m low list (i + 1) r' after'
-noted-more m low list i r r' after after' so-far here = (
-  here .0 ∙ simp (so-far .0, so-far .1) (sym (repeated-more m low list i)),
-  here .1 ∙ simp (so-far .1) (sym (bits-more m list i)),
-)
-
-pub noted-length : (m : List ℕ) (low : ℕ) (list : ℕ → List ℕ) (i r : ℕ) (after : List ℕ)
-    → Noted m low list i r after
-    → length after ≡ length m
-noted-length m low list i r after so-far = ap length (so-far .1) ∙ length-withBits m (joined list i)

@@ -2,10 +2,9 @@
 use mathlib.Core.List.{List}
 use mathlib.Core.Path.{_≡_}
 use Prim.Native.Nat.{ℕ, _+_, _*_, _/_, _%_, _≤_}
-use mathlib.Core.Bool.{Bool, true, false, _&&_}
+use mathlib.Core.Bool.{Bool, _&&_}
 use lib.Dec.{leb, eqb}
 use Rattle.rules.specs.declared.Verdict.{Verdict}
-use Rattle.rules.specs.declared.Verdict.the-variants.{Accepted, Refused}
 use Rattle.rules.specs.Answers.{_then_}
 use Rattle.rules.specs.WellFormed.{question2, question3, question4, question5}
 use lib.ListN.{length}
@@ -36,8 +35,3 @@ headerTest first counts =
 
 unfoldable pub shapeVerdict : List ℕ → Verdict
 shapeVerdict table = question2 table then question3 table then question4 table then question5 table
-
--- whether a question failed
-abbrev pub refuses : Verdict → Bool
-refuses Accepted = false
-refuses (Refused r) = true

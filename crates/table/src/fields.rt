@@ -5,7 +5,7 @@ ghost use lib.ListN.{getD};
 ghost use Rattle.rules.specs.Table.{body};
 ghost use Rattle.rules.specs.WellFormed.{procedureFits, isExpression, isStatement, kindKnown, unnamedZero};
 ghost use Rattle.rules.specs.WellFormed.{expressionPart, statementPart, nodeFits};
-ghost use Rattle.table.specs.Roles.{roles, roleOf, fieldZero, fieldFits};
+ghost use Rattle.table.specs.Roles.{roles, digit, roleOf, isPart, fieldZero, fieldFits};
 ghost use Rattle.table.specs.Sized.{Sized};
 use crate::Header;
 use crate::shape::between;
@@ -13,6 +13,9 @@ use crate::words::body;
 use crate::words::node_at;
 use crate::words::word;
 use rules::Node;
+use rules::layout::FIRST_STATEMENT;
+use rules::layout::LAST_EXPRESSION;
+use rules::layout::LAST_STATEMENT;
 
 // What a field of a node stands for.
 pub const UNNAMED: u16 = 0;
@@ -69,11 +72,28 @@ fn roles(kind: u32) -> u16
     if kind < 26 { ROLES[kind as usize] } else { 0 }
 }
 
+pub fn digit(roles: u16, place: u16) -> u16
+    requires { ⌜ 0 < place ⌝ }
+    ensures { λ r. ⌜ r ≡ digit roles place ⌝ }
+{
+    roles / place % 10
+}
+
 pub fn role(kind: u32, place: u16) -> u16
     requires { ⌜ 0 < place ⌝ }
     ensures { λ r. ⌜ r ≡ roleOf kind place ⌝ }
 {
-    roles(kind) / place % 10
+    digit(roles(kind), place)
+}
+
+// Whether a role is that of a part.
+pub fn is_part(role: u16) -> bool
+    ensures { λ r. ⌜ r ≡ isPart role ⌝ }
+{
+    if role == EXPRESSION {
+        return true;
+    }
+    role == STATEMENT
 }
 
 // Question 6.
@@ -91,14 +111,18 @@ pub fn is_expression(table: &[u8], header: Header, n: usize) -> bool
     requires { ⌜ Sized (now table) header × (n < header .nodes) ⌝ }
     ensures { λ r. ⌜ r ≡ isExpression (now (table .entry)) n ⌝ }
 {
-    node_at(table, header, n).kind <= 12
+    node_at(table, header, n).kind <= LAST_EXPRESSION
 }
 
 pub fn is_statement(table: &[u8], header: Header, n: usize) -> bool
     requires { ⌜ Sized (now table) header × (n < header .nodes) ⌝ }
     ensures { λ r. ⌜ r ≡ isStatement (now (table .entry)) n ⌝ }
 {
-    between(16, node_at(table, header, n).kind as usize, 25)
+    between(
+        FIRST_STATEMENT as usize,
+        node_at(table, header, n).kind as usize,
+        LAST_STATEMENT as usize,
+    )
 }
 
 // Question 7.
@@ -112,7 +136,7 @@ pub fn kind_known(table: &[u8], header: Header, n: usize) -> bool
     is_statement(table, header, n)
 }
 
-fn field_zero(role: u16, value: u32) -> bool
+pub fn field_zero(role: u16, value: u32) -> bool
     ensures { λ r. ⌜ r ≡ fieldZero role value ⌝ }
 {
     if role != UNNAMED {
@@ -154,7 +178,7 @@ fn statement_part(table: &[u8], header: Header, n: usize, a: usize) -> bool
     is_statement(table, header, a)
 }
 
-fn field_fits(table: &[u8], header: Header, n: usize, role: u16, value: usize) -> bool
+pub fn field_fits(table: &[u8], header: Header, n: usize, role: u16, value: usize) -> bool
     requires { ⌜ Sized (now table) header × (n < header .nodes) ⌝ }
     ensures { λ r. ⌜ r ≡ fieldFits (now (table .entry)) n role value ⌝ }
 {

@@ -1,4 +1,4 @@
-// Words out of bytes, high byte first, and what they pack. A node's place is known to `node_at` alone.
+// Words out of bytes, high byte first, and what they pack. A node's place is known to `node_at` and `kind_at` alone.
 ghost use mathlib.Core.Path.{_≡_};
 ghost use Prim.Native.Nat.{_+_, _*_, _<_, _≤_};
 ghost use lib.ListN.{length};
@@ -68,4 +68,12 @@ pub fn node_at(table: &[u8], header: Header, n: usize) -> Node
         b: packed / 512 % 512,
         c: packed % 512,
     }
+}
+
+// The kind alone, for a jump by it before any field is read.
+pub fn kind_at(table: &[u8], header: Header, n: usize) -> u32
+    requires { ⌜ (header ≡ headerOf (now table)) × (4 * (2 + header .procedures + n) + 3 < length (now table)) ⌝ }
+    ensures { λ r. ⌜ r ≡ nodeAt (now (table .entry)) n .kind ⌝ }
+{
+    word(table, 2 + header.procedures + n) / 134217728
 }

@@ -1,5 +1,6 @@
 //! Tables of an exact size, of the statements that real tables have.
 
+use finchchaise_compare::{renumber, Random};
 use finchchaise_samples::Builder;
 
 const OWN: u32 = 0;
@@ -8,7 +9,7 @@ pub const VARIABLES: usize = 2;
 
 /// An accepted table with this many nodes and procedures. Every procedure calls the one below it.
 /// The main one repeats its body for ever if it has the nodes for that.
-pub fn table(nodes: usize, procedures: usize) -> Vec<u8> {
+pub fn table(nodes: usize, procedures: usize) -> Builder {
     let mut table = Builder::new(VARIABLES as u32, &[SINGLE]);
     for number in 1..=procedures {
         let share = nodes * number / procedures - table.nodes.len();
@@ -18,7 +19,12 @@ pub fn table(nodes: usize, procedures: usize) -> Vec<u8> {
         };
         table.procedure(body, true);
     }
-    table.bytes()
+    table
+}
+
+/// The same table with the nodes of all procedures mixed. Before, each procedure's lay together.
+pub fn out_of_order(table: &Builder) -> Builder {
+    renumber(table, &mut Random::new(1))
 }
 
 fn endless(table: &mut Builder, nodes: usize) -> u32 {

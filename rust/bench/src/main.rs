@@ -3,13 +3,14 @@
 
 mod inputs;
 mod native;
+mod refused;
 #[cfg(test)]
 mod tests;
 mod work;
 
 use std::hint::black_box;
 use std::time::{Duration, Instant};
-use work::{Side, Work, LIBRARY, NATIVE};
+use work::{Side, Work, FULL_CHECK, LIBRARY, NATIVE};
 
 const ROUNDS: usize = 101;
 /// A round repeats short work for at least so long, as the clock is coarse.
@@ -31,12 +32,32 @@ fn main() {
     for round in 0..ROUNDS {
         rows.iter_mut().for_each(|row| row.time(round));
     }
-    println!("| work | ns | ns Rust | ratio | ns a table word |");
+    let is_refused = |row: &Row| row.library.refused_by.is_some();
+    let (refused, taken): (Vec<Row>, Vec<Row>) = rows.into_iter().partition(is_refused);
+    let accepted = taken
+        .iter()
+        .find(|row| row.library.what == FULL_CHECK)
+        .map(Row::library_time)
+        .expect("the accepted check");
+    print_table(&taken, "ns a table word", Row::time_a_word);
+    print_table(&refused, "of accepted", |row| row.library_time() / accepted);
+    print_notes();
+}
+
+/// The last column is named and worked out as given.
+fn print_table(rows: &[Row], column: &str, value: impl Fn(&Row) -> f64) {
+    println!("| work | ns | ns Rust | ratio | {column} |");
     println!("|---|---|---|---|---|");
-    for row in &rows {
-        row.print();
+    for row in rows {
+        let (what, library) = (&row.library.what, row.library_time());
+        let native = median(&row.native_times);
+        let (ratio, value) = (library / native, value(row));
+        println!("| {what} | {library:.0} | {native:.0} | {ratio:.2} | {value:.2} |");
     }
     println!();
+}
+
+fn print_notes() {
     println!("Medians of {ROUNDS} rounds, library and Rust in turns, every piece of work in each");
     println!("round. No buffer is cleared first: a check leaves its scratch 0, steps go on from");
     println!(
@@ -44,6 +65,7 @@ fn main() {
     );
     println!("were compared first. A table word's time is that of one call, shared among the");
     println!("table's words; a whole stocktake has a call for its start and one for each step.");
+    println!("Of accepted: the library's time, divided by its time for `{FULL_CHECK}`.");
 }
 
 impl Row {
@@ -70,7 +92,7 @@ impl Row {
             self.library.once(LIBRARY);
             self.native.once(NATIVE);
             repeats += 1;
-            assert!(self.library.is_taken(), "refused: {}", self.library.what);
+            assert!(self.library.is_as_expected(), "{:?}", self.library);
             assert_eq!(self.library, self.native);
         }
         self.calls_a_repeat = self.library.calls as f64 / repeats as f64;
@@ -88,14 +110,12 @@ impl Row {
         }
     }
 
-    fn print(&self) {
-        let (library, native) = (median(&self.library_times), median(&self.native_times));
-        let a_word = library / self.calls_a_repeat / self.library.table_words() as f64;
-        println!(
-            "| {} | {library:.0} | {native:.0} | {:.2} | {a_word:.2} |",
-            self.library.what,
-            library / native,
-        );
+    fn library_time(&self) -> f64 {
+        median(&self.library_times)
+    }
+
+    fn time_a_word(&self) -> f64 {
+        self.library_time() / self.calls_a_repeat / self.library.table_words() as f64
     }
 }
 

@@ -1,7 +1,8 @@
 //! The plain Rust answers as the library does, also on tables and states that are not timed.
 
 use crate::native;
-use finchchaise::{DOORS, ROLL_WORDS, SCRATCH_WORDS};
+use crate::refused::{self, Refused};
+use finchchaise::{Refusal, DOORS, ROLL_WORDS, SCRATCH_WORDS};
 use finchchaise_compare::{damaged, random_bytes, small_table, table, MadeUp, Random};
 
 const TABLES: usize = 20_000;
@@ -25,11 +26,26 @@ fn checks_are_answered_alike() {
             SCRATCH_WORDS,
             260,
         ]);
-        let (mut scratch, mut expected) = (vec![7; words], vec![7; words]);
-        let answer = native::check(&bytes, &mut scratch);
-        assert_eq!(answer, finchchaise::check(&bytes, &mut expected));
-        assert_eq!(scratch, expected);
+        let _ = checked_alike(&bytes, words);
     }
+}
+
+#[test]
+fn refused_tables_fail_their_question() {
+    for Refused { number, how, table } in refused::all() {
+        let answer = checked_alike(&table, SCRATCH_WORDS);
+        let refused_by = answer.err().map(|refusal| refusal.number);
+        assert_eq!(refused_by, Some(number), "{number}{how}");
+    }
+}
+
+/// What both sides answer, with so many words of scratch.
+fn checked_alike(table: &[u8], words: usize) -> Result<(), Refusal> {
+    let (mut scratch, mut expected) = (vec![7; words], vec![7; words]);
+    let answer = native::check(table, &mut scratch);
+    assert_eq!(answer, finchchaise::check(table, &mut expected));
+    assert_eq!(scratch, expected);
+    answer
 }
 
 /// State and roll of one side.

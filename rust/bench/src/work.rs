@@ -1,11 +1,14 @@
 //! What is timed. Each piece of work is done by the library and by plain Rust, on buffers of their
 //! own that are equal.
 
+use crate::refused::{self, Refused};
 use crate::{inputs, native};
 use finchchaise::{Answer, Refusal, TeamStatus};
 use finchchaise::{DEPTH_AT, DOORS, PROCESS_WORDS, ROLL_WORDS, SCRATCH_WORDS, STACK, STACK_AT};
 use finchchaise_samples::stocktake;
 
+/// What the checks of refused tables are compared with.
+pub const FULL_CHECK: &str = "check, N 256, P 16";
 const STOCKTAKE_VARIABLES: usize = 4;
 const EXCHANGE: u8 = 25;
 
@@ -49,6 +52,8 @@ pub struct Work {
     pub what: String,
     task: Task,
     table: Vec<u8>,
+    /// The question that the table fails first.
+    pub refused_by: Option<u32>,
     processes: u32,
     start_words: Vec<u32>,
     scratch: Vec<u32>,
@@ -67,11 +72,13 @@ pub fn all() -> Vec<Work> {
     for procedures in [1, 16] {
         all.extend([16, 64, 256].map(|nodes| Work::check(nodes, procedures)));
     }
+    all.push(Work::check_out_of_order());
     for (nodes, procedures) in [(16, 1), (256, 16)] {
         all.extend([1, 4, 16].map(|processes| Work::step(nodes, procedures, processes)));
     }
     all.push(Work::idle());
     all.extend([2, 4, 16].map(Work::run));
+    all.extend(refused::all().into_iter().map(Work::refused_check));
     all
 }
 
@@ -84,6 +91,7 @@ impl Work {
             what,
             task,
             table,
+            refused_by: None,
             processes,
             start_words: given.repeat(count),
             scratch: vec![0; SCRATCH_WORDS],
@@ -98,13 +106,30 @@ impl Work {
 
     fn check(nodes: usize, procedures: usize) -> Work {
         let what = format!("check, N {nodes}, P {procedures}");
-        let table = inputs::table(nodes, procedures);
+        Work::check_of(what, inputs::table(nodes, procedures).bytes())
+    }
+
+    fn check_of(what: String, table: Vec<u8>) -> Work {
         Work::new(what, Task::Check, table, inputs::VARIABLES, 1)
+    }
+
+    fn check_out_of_order() -> Work {
+        let table = inputs::out_of_order(&inputs::table(256, 16));
+        Work::check_of(format!("{FULL_CHECK}, out of order"), table.bytes())
+    }
+
+    fn refused_check(refused: Refused) -> Work {
+        let Refused { number, how, table } = refused;
+        let what = format!("check refused by {number}, N 256, P 16{how}");
+        Work {
+            refused_by: Some(number),
+            ..Work::check_of(what, table)
+        }
     }
 
     fn step(nodes: usize, procedures: usize, processes: u32) -> Work {
         let what = format!("step, N {nodes}, P {procedures}, processes {processes}");
-        let table = inputs::table(nodes, procedures);
+        let table = inputs::table(nodes, procedures).bytes();
         let mut work = Work::new(what, Task::Step, table, inputs::VARIABLES, processes);
         work.start(LIBRARY);
         work
@@ -179,8 +204,9 @@ impl Work {
         answer.ok().map(|answer| answer.team)
     }
 
-    /// Nothing may be refused: a refusal takes less time.
-    pub fn is_taken(&self) -> bool {
-        self.checked.is_ok() && !matches!(self.stepped, Some(Err(_)))
+    /// Only a refused check may be refused, and by its question: another takes another time.
+    pub fn is_as_expected(&self) -> bool {
+        let refused_by = self.checked.err().map(|refusal| refusal.number);
+        refused_by == self.refused_by && !matches!(self.stepped, Some(Err(_)))
     }
 }

@@ -19,5 +19,6 @@ pub use both::{check, latches, Team};
 pub use damage::{damaged, random_bytes, small_table};
 pub use generator::table;
 pub use made_up::{MadeUp, Plan};
+pub use order::renumber;
 pub use random::Random;
 pub use tally::Tally;

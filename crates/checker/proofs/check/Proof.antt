@@ -1,10 +1,10 @@
--- `check` meets its contract: by question 1, and the first 256 words are answered in.
+-- `check` meets its contract: by question 1, and the words that it asks for are answered in.
 use mathlib.Core.Path.{refl}
 use Prim.Native.Nat.{_<_, _≤_}
 use native.Mathlib.Omega.{arith}
 use lib.ListN.{length}
 use borrow.Author.Tests.{le-leb, lt-leb}
-use Rattle.rules.specs.Acceptance.{checked, checkedScratch}
+use Rattle.rules.specs.Acceptance.{scratchWords, checked, checkedScratch}
 use borrow.Author.Needs.{needs}
 use Rattle.checker.proofs.check.Statement.{statement}
 use Rattle.checker.proofs.check.Tie as tie
@@ -16,8 +16,8 @@ returns : tie.Need-returns
 unfolding checked checkedScratch
 returns c =
     let scratch = c .before .before .before .before .args .scratch .now in
-    let few : length scratch < 256 = omega arith in
-    simp (lt-leb 256 (length scratch) few) (c .refused .ensures, refl)
+    let few : length scratch < scratchWords = omega arith in
+    simp (lt-leb scratchWords (length scratch) few) (c .refused .ensures, refl)
 
 sub-answer-in : tie.Need-sub-answer-in
 sub-answer-in c = search needs
@@ -38,9 +38,9 @@ returns-2 : tie.Need-returns-2
 unfolding checked checkedScratch
 returns-2 c =
     let scratch = c .before .before .before .before .before .before .before .args .scratch .now in
-    let enough : 256 ≤ length scratch = omega arith in
+    let enough : scratchWords ≤ length scratch = omega arith in
     let answered = c .before .before .answer-in .ensures in
-    simp (le-leb 256 (length scratch) enough, answered .1) (answered .0, refl)
+    simp (le-leb scratchWords (length scratch) enough, answered .1) (answered .0, refl)
 
 pub check-spec : {M : Type 1} → statement M
 check-spec =

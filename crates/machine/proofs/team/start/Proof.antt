@@ -20,12 +20,12 @@ enum-told c = search needs
 start-formed-requires : tie.Need-start-formed-requires
 start-formed-requires c κs =
     let formed = c .before .before .before .before .before .well-formed .ensures in
-    sym (formed .0) ∙ c .before .before .enum-told .given .1
+    sym formed ∙ c .before .before .enum-told .given .1
 
 returns : tie.Need-returns
 returns c =
     let formed = c .before .before .before .before .well-formed .ensures in
-    refused-form _ _ _ _ _ (sym (formed .0) ∙ c .before .formed .given .1)
+    refused-form _ _ _ _ _ (sym formed ∙ c .before .formed .given .1)
 
 same-length : tie.Need-same-length
 same-length c = search needs

@@ -20,12 +20,12 @@ enum-told c = search needs
 step-formed-requires : tie.Need-step-formed-requires
 step-formed-requires c κs =
     let formed = c .before .before .before .before .before .well-formed .ensures in
-    sym (formed .0) ∙ c .before .before .enum-told .given .1
+    sym formed ∙ c .before .before .enum-told .given .1
 
 returns : tie.Need-returns
 returns c =
     let formed = c .before .before .before .before .well-formed .ensures in
-    denied-form _ _ _ _ (sym (formed .0) ∙ c .before .formed .given .1)
+    denied-form _ _ _ _ (sym formed ∙ c .before .formed .given .1)
 
 same-length : tie.Need-same-length
 same-length c = search needs

@@ -1,4 +1,4 @@
--- `fields::expression_part` meets its contract.
+-- `fields::expression_part` meets its contract: a part from the node on is refused before its sort is asked.
 use Rattle.rules.specs.WellFormed.{expressionPart}
 use borrow.Author.Tests.{lt-ltb, le-ltb}
 use borrow.Author.Needs.{needs}

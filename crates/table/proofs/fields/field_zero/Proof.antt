@@ -1,4 +1,4 @@
--- `fields::field_zero` meets its contract.
+-- `fields::field_zero` meets its contract: only an unnamed field is compared with 0.
 use Rattle.table.specs.Roles.{fieldZero}
 use borrow.Author.Tests.{eq-eqb, ne-eqb}
 use Rattle.table.proofs.fields.field_zero.Statement.{statement}

@@ -1,4 +1,4 @@
--- `fields::is_expression` meets its contract.
+-- `fields::is_expression` meets its contract: the kind is compared with the last of an expression.
 use Rattle.rules.specs.WellFormed.{isExpression}
 use borrow.Author.Needs.{needs}
 use Rattle.table.proofs.fields.is_expression.Statement.{statement}

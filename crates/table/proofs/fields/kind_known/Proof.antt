@@ -1,4 +1,4 @@
--- `fields::kind_known` meets its contract.
+-- `fields::kind_known` meets its contract: an expression, or else a statement.
 use Rattle.rules.specs.WellFormed.{kindKnown}
 use borrow.Author.Needs.{needs}
 use Rattle.table.proofs.fields.kind_known.Statement.{statement}

@@ -1,4 +1,4 @@
--- `fields::procedure_fits` meets its contract.
+-- `fields::procedure_fits` meets its contract: the two tests of question 6 in turn.
 use Rattle.rules.specs.WellFormed.{procedureFits}
 use Rattle.rules.specs.Table.{procedureWord}
 use borrow.Author.Tests.{eq-eqb, ne-eqb}

@@ -6,23 +6,17 @@ use mathlib.Core.Path.{refl, sym}
 use borrow.Author.Needs.{needs}
 use Rattle.table.proofs.fields.roles.Statement.{statement}
 use Rattle.table.proofs.fields.roles.Tie as tie
-use Rattle.table.proofs.fields.roles.Reads as reads
-use Rattle.table.proofs.fields.roles.Lts as lts
 
--- src/fields.rt:69:20
 mul-result : tie.Need-mul-result
 mul-result c = search needs
 
--- src/fields.rt:69:20
 array-read-result : tie.Need-array-read-result
 array-read-result c = search needs
 
--- src/fields.rt:66:1
 returns : tie.Need-returns
 unfolding roles
 returns c = refl
 
--- src/fields.rt:66:1
 returns-2 : tie.Need-returns-2
 unfolding roles
 returns-2 c = sym (List·getD-eq-default roles 0 {n = c .before .args .kind} (omega arith))

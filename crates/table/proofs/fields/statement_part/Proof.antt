@@ -1,4 +1,4 @@
--- `fields::statement_part` meets its contract.
+-- `fields::statement_part` meets its contract: a part from the node on is refused before its sort is asked.
 use Rattle.rules.specs.WellFormed.{statementPart}
 use borrow.Author.Tests.{lt-ltb, le-ltb}
 use borrow.Author.Needs.{needs}

@@ -1,4 +1,4 @@
--- `marks::marked` meets its contract.
+-- `marks::marked` meets its contract: the shifted word ends in the bit.
 use mathlib.Core.Path.{refl}
 use Rattle.table.specs.Marks.{bitAt, hasBit}
 use borrow.Author.Needs.{needs}

@@ -1,4 +1,4 @@
--- `shape::length_fits` meets its contract.
+-- `shape::length_fits` meets its contract: the length is no multiple of 4, or its bounds decide.
 use borrow.Author.Tests.{eq-eqb, ne-eqb}
 use borrow.Author.Needs.{needs}
 use Rattle.table.proofs.shape.length_fits.Statement.{statement}

@@ -1,4 +1,4 @@
--- `words::body` meets its contract.
+-- `words::body` meets its contract: the word divided as the definition says.
 use Rattle.rules.specs.Table.{body, procedureWord}
 use borrow.Author.Needs.{needs}
 use Rattle.table.proofs.words.body.Statement.{statement}

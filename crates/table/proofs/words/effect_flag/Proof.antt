@@ -1,4 +1,4 @@
--- `words::effect_flag` meets its contract.
+-- `words::effect_flag` meets its contract: the word divided as the definition says.
 use Rattle.rules.specs.Table.{effectFlag, procedureWord}
 use borrow.Author.Needs.{needs}
 use Rattle.table.proofs.words.effect_flag.Statement.{statement}

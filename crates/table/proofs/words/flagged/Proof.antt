@@ -1,4 +1,4 @@
--- `words::flagged` meets its contract.
+-- `words::flagged` meets its contract: word 1, shifted, ends in the flag.
 use Rattle.rules.specs.Table.{flagged}
 use borrow.Author.Needs.{needs}
 use Rattle.table.proofs.words.flagged.Statement.{statement}

@@ -1,4 +1,4 @@
--- `words::header` meets its contract.
+-- `words::header` meets its contract: the counts are divided out of word 0 as the definitions say.
 use Rattle.table.specs.Header.{headerOf}
 use Rattle.rules.specs.Table.{variables, procedures, nodes}
 use borrow.Author.Needs.{needs}

@@ -1,4 +1,4 @@
--- `words::node_at` meets its contract.
+-- `words::node_at` meets its contract: the fields are divided out of the word as the definition says.
 use Rattle.table.specs.Header.{headerOf}
 use Rattle.rules.specs.Table.{nodeAt, unpacked}
 use borrow.Author.Needs.{needs}

@@ -1,0 +1,182 @@
+-- The inner statements of a node: those of its parts that may hold a call are among them, and only four kinds have any or call.
+use mathlib.Core.Bool.{Bool, true, false, _&&_}
+use mathlib.Core.List.{List, [], _∷_}
+use mathlib.Core.Logic.{⊎-elim}
+use mathlib.Core.Path.{_≡_, refl, sym, _∙_}
+use Prim.Native.Nat.{ℕ, zero, suc, _-_, _≤_}
+use native.Mathlib.Decide.{decLt}
+use native.Mathlib.Omega.{arith}
+use lib.Dec.{leb, ltb}
+use borrow.Author.Tests.{leb-true, le-leb}
+use Rattle.rules.specs.declared.Node.{Node}
+use Rattle.rules.specs.Table.{variables, nodeAt, statementOf, expressionAt, statementAt}
+use Rattle.rules.specs.Table.{Expression, constant, variable, ownNumber, processCount, door, slot, operation}
+use Rattle.rules.specs.Table.{Statement, nothing, assign, sequence, branch, loop, call, latch, collective}
+use Rattle.rules.specs.Table.{Collective, barrier, broadcast, exchange}
+use Rattle.rules.specs.WellFormed.{isExpression, expressionPart, statementPart, partsAt, occurrences}
+use Rattle.rules.specs.WellFormed.{expressionFits, collectiveFits, statementFits, nodeFits}
+use Rattle.rules.specs.WellFormed.{expressionParts, collectiveParts, statementParts}
+use Rattle.rules.proofs.AnswerLaws.{both-left, both-right}
+use Rattle.rules.proofs.ChoiceLaws.{bool-cases}
+use Rattle.rules.proofs.ValueLaws.{expression-part-sort}
+use Rattle.table.proofs.TestLaws.{never}
+use Rattle.table.proofs.UseLaws.{occurrences-append}
+use Rattle.calls.specs.Walk.{innerStatements, mayCall, callers, callsBelow}
+use Rattle.calls.proofs.TreeLaws.{In, first-in, one-more, in-cases}
+
+nowhere : {A : Type 0} (k : ℕ) → In k [] → A
+unfolding occurrences
+nowhere k h = absurd (omega arith)
+
+-- they are parts
+inner-part : (k : ℕ) (s : Statement) → In k (innerStatements s) → In k (statementParts s)
+unfolding innerStatements statementParts
+inner-part k nothing h = h
+inner-part k (assign a b) h = nowhere k h
+inner-part k (sequence a b) h = h
+inner-part k (branch a b c) h = one-more k a (b ∷ c ∷ []) h
+inner-part k (loop a b) h = one-more k a (b ∷ []) h
+inner-part k (call q) h = h
+inner-part k (latch a b) h = nowhere k h
+inner-part k (collective m) h = nowhere k h
+
+pub inner-in : (table : List ℕ) (n k : ℕ) → In k (innerStatements (statementAt table n)) → In k (partsAt table n)
+unfolding partsAt
+inner-in table n k h =
+    let part = inner-part k (statementAt table n) h in
+    omega (arith, part, occurrences-append k (expressionParts (expressionAt table n)) (statementParts (statementAt table n)))
+
+-- an expression holds no call
+no-caller : (table : List ℕ) (n : ℕ) → isExpression table n ≡ true → mayCall table n ≡ true → ⊥
+unfolding isExpression mayCall
+no-caller table n e s =
+    let kind = nodeAt table n .kind in
+    omega (arith, leb-true kind 12 e, leb-true 18 kind (both-left (leb 18 kind) (leb kind 21) s))
+
+-- and a part that may hold a call is one of them
+module _ (table : List ℕ) (n k : ℕ) (s : mayCall table k ≡ true) where
+  abbrev E : ℕ → Bool
+  E = expressionPart table n
+
+  abbrev S : ℕ → Bool
+  S = statementPart table n
+
+  past : (a : ℕ) (xs : List ℕ) → expressionPart table n a ≡ true → In k (a ∷ xs) → In k xs
+  past a xs e h =
+      ⊎-elim
+      (λ (same : a ≡ k). absurd (no-caller table k (rw same at (expression-part-sort table n a e)) s))
+      (λ (rest : In k xs). rest)
+      (in-cases k a xs h)
+
+  no-part : (e : Expression) → expressionFits table n e ≡ true → In k (expressionParts e) → In k []
+  unfolding expressionFits expressionParts
+  no-part (constant v) fits h = h
+  no-part (variable a) fits h = h
+  no-part ownNumber fits h = h
+  no-part processCount fits h = h
+  no-part (door a) fits h = past a [] fits h
+  no-part (slot a) fits h = past a [] fits h
+  no-part (operation o a b) fits h =
+      past b [] (both-right (E a) (E b) fits) (past a (b ∷ []) (both-left (E a) (E b) fits) h)
+
+  no-meeting : (m : Collective) → collectiveFits table n m ≡ true → In k (collectiveParts m) → In k []
+  unfolding collectiveFits collectiveParts
+  no-meeting barrier fits h = h
+  no-meeting (broadcast a b c) fits h =
+      let v = ltb a (variables table) in
+      past c [] (both-right (v && E b) (E c) fits) (past b (c ∷ []) (both-right v (E b) (both-left (v && E b) (E c) fits)) h)
+  no-meeting (exchange a) fits h = past a [] fits h
+
+  part-inner : (m : Statement) → statementFits table n m ≡ true → In k (statementParts m) → In k (innerStatements m)
+  unfolding statementFits statementParts innerStatements
+  part-inner nothing fits h = h
+  part-inner (assign a b) fits h = past b [] (both-right (ltb a (variables table)) (E b) fits) h
+  part-inner (sequence a b) fits h = h
+  part-inner (branch a b c) fits h =
+      past a (b ∷ c ∷ []) (both-left (E a) (S b) (both-left (E a && S b) (S c) fits)) h
+  part-inner (loop a b) fits h = past a (b ∷ []) (both-left (E a) (S b) fits) h
+  part-inner (call q) fits h = h
+  part-inner (latch a b) fits h =
+      past b [] (both-right (E a) (E b) fits) (past a (b ∷ []) (both-left (E a) (E b) fits) h)
+  part-inner (collective m) fits h = no-meeting m fits h
+
+  pub in-inner : nodeFits table n ≡ true → In k (partsAt table n) → In k (innerStatements (statementAt table n))
+  unfolding nodeFits partsAt
+  in-inner fits h =
+      let left = expressionFits table n (expressionAt table n) in
+      let right = statementFits table n (statementAt table n) in
+      let ours = expressionParts (expressionAt table n) in
+      let rest = statementParts (statementAt table n) in
+      elim (decLt 0 (occurrences k ours)) [
+        | yes l ↦ nowhere k (no-part (expressionAt table n) (both-left left right fits) l)
+        | no m ↦
+            part-inner (statementAt table n) (both-right left right fits) (omega (arith, occurrences-append k ours rest))
+      ]
+
+-- those of a list that may hold a call
+pub callers-in : (table : List ℕ) (k : ℕ) (u : List ℕ) → In k (callers table u) → In k u
+unfolding callers
+callers-in table k [] h = h
+callers-in table k (x ∷ u) h =
+    ⊎-elim
+    (λ (e : mayCall table x ≡ true).
+    ⊎-elim
+    (λ (same : x ≡ k). rw same (first-in k u))
+    (λ (rest : In k (callers table u)). one-more k x u (callers-in table k u rest))
+    (in-cases k x (callers table u) (simp e at h)))
+    (λ (e : mayCall table x ≡ false). one-more k x u (callers-in table k u (simp e at h)))
+    (bool-cases (mayCall table x))
+
+pub in-callers : (table : List ℕ) (k : ℕ) (u : List ℕ) → mayCall table k ≡ true → In k u → In k (callers table u)
+unfolding callers
+in-callers table k [] t h = h
+in-callers table k (x ∷ u) t h =
+    ⊎-elim
+    (λ (same : x ≡ k). simp (same, t) (first-in k (callers table u)))
+    (λ (rest : In k u).
+    ⊎-elim
+    (λ (e : mayCall table x ≡ true). simp e (one-more k x (callers table u) (in-callers table k u t rest)))
+    (λ (e : mayCall table x ≡ false). simp e (in-callers table k u t rest))
+    (bool-cases (mayCall table x)))
+    (in-cases k x u h)
+
+-- what neither calls nor has inner statements
+abbrev Quiet : Statement → Type 0
+Quiet s = (innerStatements s ≡ []) × ((p : ℕ) → callsBelow p s ≡ true)
+
+module _ (m : Node) (h18 : m .kind ≡ 18 → ⊥) (h19 : m .kind ≡ 19 → ⊥) (h20 : m .kind ≡ 20 → ⊥) (h21 : m .kind ≡ 21 → ⊥) where
+  quiet-at : (i : ℕ) → m .kind - 16 ≡ i → Quiet (statementOf m)
+  unfolding statementOf innerStatements callsBelow
+  quiet-at zero e = rw e (refl, λ p. refl)
+  quiet-at (suc zero) e = rw e (refl, λ p. refl)
+  quiet-at (suc (suc zero)) e = absurd (h18 (omega arith))
+  quiet-at (suc (suc (suc zero))) e = absurd (h19 (omega arith))
+  quiet-at (suc (suc (suc (suc zero)))) e = absurd (h20 (omega arith))
+  quiet-at (suc (suc (suc (suc (suc zero))))) e = absurd (h21 (omega arith))
+  quiet-at (suc (suc (suc (suc (suc (suc zero)))))) e = rw e (refl, λ p. refl)
+  quiet-at (suc (suc (suc (suc (suc (suc (suc zero))))))) e = rw e (refl, λ p. refl)
+  quiet-at (suc (suc (suc (suc (suc (suc (suc (suc zero)))))))) e = rw e (refl, λ p. refl)
+  quiet-at (suc (suc (suc (suc (suc (suc (suc (suc (suc zero))))))))) e = rw e (refl, λ p. refl)
+  quiet-at (suc (suc (suc (suc (suc (suc (suc (suc (suc (suc i)))))))))) e = rw e (refl, λ p. refl)
+
+  pub quiet : Quiet (statementOf m)
+  quiet = quiet-at (m .kind - 16) refl
+
+-- a node that holds no call
+module _ (table : List ℕ) (n : ℕ) (none : mayCall table n ≡ false) where
+  outside : (kind : ℕ) → 18 ≤ kind → kind ≤ 21 → nodeAt table n .kind ≡ kind → ⊥
+  unfolding mayCall
+  outside kind low high e =
+      let own = nodeAt table n .kind in
+      let in-range : (leb 18 own && leb own 21) ≡ true =
+      rw e (simp (le-leb 18 kind low, le-leb kind 21 high)) in
+      never (sym in-range ∙ none)
+
+  pub no-call : Quiet (statementAt table n)
+  unfolding statementAt
+  no-call =
+      quiet (nodeAt table n) (outside 18 (omega arith) (omega arith)) (outside 19 (omega arith) (omega arith))
+      (outside 20 (omega arith) (omega arith)) (outside 21 (omega arith) (omega arith))
+
+  pub no-inner : {A : Type 0} (k : ℕ) → In k (innerStatements (statementAt table n)) → A
+  no-inner k h = nowhere k (rw (no-call .0) at h)

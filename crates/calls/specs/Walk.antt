@@ -1,0 +1,61 @@
+-- The walk from a body down: marks of the statements that wait, of which the highest is taken first.
+use mathlib.Core.Bool.{Bool, true, false, cond, not, _&&_, _||_}
+use mathlib.Core.List.{List, [], _∷_}
+use mathlib.Core.Path.{_≡_}
+use Prim.Native.Nat.{ℕ, suc, _+_, _/_, _≤_, _<_}
+use lib.Dec.{leb, ltb}
+use lib.ListN.{length, getD, replicate}
+use Rattle.rules.specs.Table.{Statement, nothing, assign, sequence, branch, loop, call, latch, collective}
+use Rattle.rules.specs.Table.{body, nodeAt, statementAt}
+use Rattle.rules.specs.WellFormed.{inTree}
+use Rattle.table.specs.Marks.{bitAt}
+
+-- the parts that are statements
+unfoldable pub innerStatements : Statement → List ℕ
+innerStatements nothing = []
+innerStatements (assign a b) = []
+innerStatements (sequence a b) = a ∷ b ∷ []
+innerStatements (branch a b c) = b ∷ c ∷ []
+innerStatements (loop a b) = b ∷ []
+innerStatements (call q) = []
+innerStatements (latch a b) = []
+innerStatements (collective k) = []
+
+-- a node may hold a call: it is a sequence, a branch, a loop or a call
+unfoldable pub mayCall : List ℕ → ℕ → Bool
+mayCall table n = leb 18 (nodeAt table n .kind) && leb (nodeAt table n .kind) 21
+
+-- those of a list that may hold a call
+unfoldable pub callers : List ℕ → List ℕ → List ℕ
+callers table [] = []
+callers table (n ∷ nodes) = cond (mayCall table n) (n ∷ callers table nodes) (callers table nodes)
+
+-- what waits once node n is visited
+abbrev pub waiting : List ℕ → ℕ → List ℕ
+waiting table n = callers table (innerStatements (statementAt table n))
+
+-- a statement is no call, or calls a procedure below p
+unfoldable pub callsBelow : ℕ → Statement → Bool
+callsBelow p nothing = true
+callsBelow p (assign a b) = true
+callsBelow p (sequence a b) = true
+callsBelow p (branch a b c) = true
+callsBelow p (loop a b) = true
+callsBelow p (call q) = ltb q p
+callsBelow p (latch a b) = true
+callsBelow p (collective k) = true
+
+-- question 12 of node n as far as procedure p goes
+unfoldable pub ownCalls : List ℕ → ℕ → ℕ → Bool
+ownCalls table p n = not (inTree table n (body table p)) || callsBelow p (statementAt table n)
+
+-- the words from k on hold no node
+abbrev pub ClearFrom : List ℕ → ℕ → Type 0
+ClearFrom marks k = (i : ℕ) → k ≤ i → i < 8 → getD marks i 0 ≡ 0
+
+-- the highest node taken out of the marks: one more than its number, or 0 if there was none
+pub data Topped (before after : List ℕ) : ℕ → Type 0 where
+  empty : before ≡ replicate 8 0 → after ≡ replicate 8 0 → Topped before after 0
+  taken : (n : ℕ) → n < 256 → bitAt before n ≡ true → ((k : ℕ) → n < k → k < 256 → bitAt before k ≡ false)
+      → bitAt after n ≡ false → ((k : ℕ) → (k ≡ n → ⊥) → bitAt after k ≡ bitAt before k) → length after ≡ 8
+      → ClearFrom after (n / 32 + 1) → Topped before after (suc n)

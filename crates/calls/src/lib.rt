@@ -1,0 +1,130 @@
+// Question 12: does each call name a procedure below its own? A walk from each body down: statements that may hold a call wait,
+// which are marked, and the highest of them is visited next.
+ghost use mathlib.Core.Bool.{cond};
+ghost use mathlib.Core.List.{[], _∷_};
+ghost use mathlib.Core.Path.{_≡_};
+ghost use Prim.Native.Nat.{_+_, _<_, _≤_, _^_, min};
+ghost use lib.ListN.{length, replicate};
+ghost use Rattle.rules.specs.Choice.{firstFailing};
+ghost use Rattle.rules.specs.Table.{nodes, statementAt};
+ghost use Rattle.rules.specs.WellFormed.{calledBelow};
+ghost use Rattle.calls.specs.Walk.{callers, waiting, callsBelow, ownCalls, ClearFrom, Topped};
+ghost use Rattle.table.specs.Marks.{withBits};
+ghost use Rattle.table.specs.Uses.{Fitting};
+use table::Header;
+use table::marks::mark;
+use table::words::body;
+use table::words::node_at;
+
+// The place of the highest bit of a word that is not 0.
+fn top_bit(word: u32) -> u32
+    requires { ⌜ 0 < word ⌝ }
+    ensures { λ r. ⌜ (r < 32) × (2 ^ r ≤ word) × (word < 2 ^ (r + 1)) ⌝ }
+{
+    31 - u32::leading_zeros(word)
+}
+
+// Takes the highest node out of the first `from` words of the marks: one more than its number, or 0 if there is none.
+fn take_top(marks: &mut [u32], from: usize) -> usize
+    requires { ⌜ (length (now marks) ≡ 8) × (from ≤ 8) × ClearFrom (now marks) from ⌝ }
+    ensures { λ r. ⌜ Topped (now (marks .entry)) (now (marks .exit)) r ⌝ }
+{
+    let mut k = from;
+    while 0 < k {
+        k -= 1;
+        let word = marks[k];
+        if word != 0 {
+            let bit = top_bit(word);
+            let one: u32 = 1 << bit;
+            marks[k] = word - one;
+            return 32 * k + bit as usize + 1;
+        }
+    }
+    0
+}
+
+// Node n waits from now on if it may hold a call: a sequence, a branch, a loop or a call.
+fn wait(table: &[u8], header: Header, marks: &mut [u32], n: usize)
+    requires { ⌜ Fitting (now table) header × (n < header .nodes) × (length (now marks) ≡ 8) ⌝ }
+    ensures { λ r. ⌜ now (marks .exit) ≡ withBits (now (marks .entry)) (callers (now (table .entry)) (n ∷ [])) ⌝ }
+{
+    let kind = node_at(table, header, n).kind;
+    if 18 <= kind && kind <= 21 {
+        mark(marks, n);
+    }
+}
+
+// A visit of node n on the way down procedure p's tree: its statement parts that may hold a call wait from now on, and a call
+// that does not call below p is the lowest so far.
+fn visit(
+    table: &[u8],
+    header: Header,
+    marks: &mut [u32],
+    p: usize,
+    n: usize,
+    lowest: usize,
+) -> usize
+    requires { ⌜ Fitting (now table) header × (n < header .nodes) × (length (now marks) ≡ 8) ⌝ }
+    ensures { λ r. ⌜ r ≡ cond (callsBelow p (statementAt (now (table .entry)) n)) lowest n ⌝ }
+    ensures { λ r. ⌜ now (marks .exit) ≡ withBits (now (marks .entry)) (waiting (now (table .entry)) n) ⌝ }
+{
+    let node = node_at(table, header, n);
+    let kind = node.kind;
+    match kind {
+        18 => {
+            wait(table, header, marks, node.a as usize);
+            wait(table, header, marks, node.b as usize);
+            lowest
+        }
+        19 => {
+            wait(table, header, marks, node.b as usize);
+            wait(table, header, marks, node.c as usize);
+            lowest
+        }
+        20 => {
+            wait(table, header, marks, node.b as usize);
+            lowest
+        }
+        21 => { if (node.a as usize) < p { lowest } else { n } }
+        _ => lowest,
+    }
+}
+
+// The first call in procedure p's tree that does not call below p.
+fn first_high_call(table: &[u8], header: Header, marks: &mut [u32], p: usize) -> usize
+    requires { ⌜ Fitting (now table) header × (p < header .procedures) × (now marks ≡ replicate 8 0) ⌝ }
+    ensures { λ r. ⌜ r ≡ firstFailing (ownCalls (now (table .entry)) p) (nodes (now (table .entry))) ⌝ }
+    ensures { λ r. ⌜ now (marks .exit) ≡ replicate 8 0 ⌝ }
+{
+    let mut lowest = header.nodes;
+    let mut next = body(table, p) + 1;
+    while 0 < next {
+        let n = next - 1;
+        lowest = visit(table, header, marks, p, n, lowest);
+        next = take_top(marks, n / 32 + 1);
+    }
+    lowest
+}
+
+fn smaller(a: usize, b: usize) -> usize
+    ensures { λ r. ⌜ r ≡ min a b ⌝ }
+{
+    if a < b { a } else { b }
+}
+
+// The first call that does not call below its own procedure.
+pub fn first_miscalled(table: &[u8], header: Header, marks: &mut [u32]) -> usize
+    requires { ⌜ Fitting (now table) header × (now marks ≡ replicate 8 0) ⌝ }
+    ensures { λ r. ⌜ r ≡ firstFailing (λ n. calledBelow (now (table .entry)) n (statementAt (now (table .entry)) n))
+        (nodes (now (table .entry))) ⌝ }
+    ensures { λ r. ⌜ now (marks .exit) ≡ replicate 8 0 ⌝ }
+{
+    let count = header.procedures;
+    let mut lowest = header.nodes;
+    let mut p = 0;
+    while p < count {
+        lowest = smaller(lowest, first_high_call(table, header, marks, p));
+        p += 1;
+    }
+    lowest
+}

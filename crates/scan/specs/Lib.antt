@@ -1,4 +1,0 @@
--- What the contracts of this crate cite besides the rules.
-pub mod Facts
-pub mod Words
-pub mod Scanned

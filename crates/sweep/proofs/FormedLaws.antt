@@ -1,0 +1,106 @@
+-- Questions 2 to 17 in the parts that the code asks them in.
+use mathlib.Core.Bool.{Bool, true, false}
+use mathlib.Core.List.{List}
+use mathlib.Core.Path.{_≡_, _∙_, sym}
+use Prim.Native.Nat.{ℕ, _≤_, _<_, min}
+use native.Mathlib.Omega.{arith}
+use borrow.Author.Tests.{lt-ltb, le-ltb}
+use Rattle.rules.specs.declared.Refusal.{Refusal}
+use Rattle.rules.specs.declared.Verdict.{Verdict}
+use Rattle.rules.specs.declared.Verdict.the-variants.{Accepted, Refused}
+use Rattle.rules.specs.Acceptance.{judged}
+use Rattle.rules.specs.Answers.{refused, _then_}
+use Rattle.rules.specs.Choice.{firstFailing}
+use Rattle.rules.specs.Table.{procedures, nodes, body, statementAt}
+use Rattle.rules.specs.WellFormed.{isStatement, calledBelow, wellFormed}
+use Rattle.rules.specs.WellFormed.{question6, question7, question8, question9, question10, question11, question12}
+use Rattle.rules.proofs.AnswerLaws.{then-first, then-rest, each-passed}
+use Rattle.rules.proofs.ChoiceLaws.{first-none}
+use Rattle.table.specs.declared.Header.{Header}
+use Rattle.table.specs.Sized.{Sized, shapeVerdict}
+use Rattle.table.specs.Uses.{Fitting}
+use Rattle.table.proofs.FittingLaws.{fitting}
+use Rattle.table.proofs.PlaceLaws.{each-refused, each-accepted, then-assoc}
+use Rattle.visit.specs.Facts.{ruleCode, flagCode}
+use Rattle.visit.specs.Least.{none, leastBelow, verdictOf}
+use Rattle.sweep.specs.Asked.{Filled, callsAsked, asked}
+use Rattle.sweep.specs.Swept.{filledVerdict, Uses}
+use Rattle.sweep.proofs.JudgedLaws.{judged-least}
+
+-- 2 to 5, 6 to 11, and the rest
+in-parts : (strictly : Bool) (table : List ℕ)
+    → asked strictly table ≡ (shapeVerdict table then (filledVerdict table then callsAsked strictly table))
+unfolding asked callsAsked wellFormed shapeVerdict filledVerdict
+in-parts strictly table = simp then-assoc
+
+module _ (strictly : Bool) (table : List ℕ) where
+  pub misshapen : {r : Refusal} → shapeVerdict table ≡ Refused r → shapeVerdict table ≡ asked strictly table
+  misshapen e = rw (in-parts strictly table, e)
+
+  pub shaped : shapeVerdict table ≡ Accepted → (filledVerdict table then callsAsked strictly table) ≡ asked strictly table
+  shaped e = rw (in-parts strictly table, e)
+
+-- a table that passes 2 to 11
+module _ {table : List ℕ} {header : Header} (filled : Filled table header) where
+  after8 : (question9 table then (question10 table then question11 table)) ≡ Accepted
+  unfolding filledVerdict
+  after8 = then-rest (question8 table) _ (then-rest (question7 table) _ (then-rest (question6 table) _ (filled .passed)))
+
+  pub fits : Fitting table header
+  unfolding filledVerdict
+  fits =
+      fitting table header (filled .sized) (then-first (question6 table) _ (filled .passed))
+      (then-first (question9 table) _ after8)
+
+  pub body-sort : (p : ℕ) → p < procedures table → isStatement table (body table p) ≡ true
+  body-sort =
+      each-passed 10 (procedures table) (λ p. isStatement table (body table p))
+      (then-first (question10 table) _ (then-rest (question9 table) _ after8))
+
+  pub none-miscalled : question12 table ≡ Accepted
+      → header .nodes ≡ firstFailing (λ n. calledBelow table n (statementAt table n)) (nodes table)
+  none-miscalled passed =
+      let test : ℕ → Bool = λ n. calledBelow table n (statementAt table n) in
+      filled .sized .nodes-read ∙ sym (first-none test (nodes table) (each-passed 12 (nodes table) test passed))
+
+-- 13 to 17 from the least refusal
+module _ {table : List ℕ} {header : Header} (sized : Sized table header) {least : ℕ}
+    (found : least ≡ min (leastBelow (ruleCode table) (nodes table)) (leastBelow (flagCode table) (procedures table))) where
+  pub judged-verdict : (verdictOf least ≡ judged table) × (least ≤ none)
+  judged-verdict = rw found (judged-least table (omega (arith, sized .nodes-high)) (omega (arith, sized .procedures-high)))
+
+-- 12 to 17 from the first call that fails 12
+module _ {table : List ℕ} {header : Header} (sized : Sized table header) {call : ℕ}
+    (found : call ≡ firstFailing (λ n. calledBelow table n (statementAt table n)) (nodes table)) (strictly : Bool) where
+  pub refused12 : call < header .nodes → refused 12 call ≡ callsAsked strictly table
+  unfolding callsAsked
+  refused12 l =
+      let inside : call < nodes table = omega (arith, sized .nodes-read) in
+      simp (each-refused 12 (nodes table) (λ n. calledBelow table n (statementAt table n)) call found inside)
+
+  accepted12 : header .nodes ≤ call → question12 table ≡ Accepted
+  accepted12 l =
+      let past : nodes table ≤ call = omega (arith, sized .nodes-read) in
+      each-accepted 12 (nodes table) (λ n. calledBelow table n (statementAt table n)) call found past
+
+  pub unjudged : header .nodes ≤ call → strictly ≡ false → Accepted ≡ callsAsked strictly table
+  unfolding callsAsked
+  unjudged l e = simp (accepted12 l, e)
+
+  pub judged-next : header .nodes ≤ call → strictly ≡ true → judged table ≡ callsAsked strictly table
+  unfolding callsAsked
+  judged-next l e = simp (accepted12 l, e)
+
+-- 6 to 11 from the least refusal
+module _ {table : List ℕ} {first best : ℕ} (uses : Uses table first best) where
+  pub fails : best < none → (next : Verdict) → verdictOf best ≡ (filledVerdict table then next)
+  fails l next = simp (← uses .verdict, lt-ltb best none l)
+
+  pub passes : none ≤ best → filledVerdict table ≡ Accepted
+  passes l = sym (uses .verdict) ∙ simp (le-ltb best none l)
+
+  pub passes-first : none ≤ best → first ≤ none → first ≡ none
+  passes-first l high = omega (arith, uses .lower)
+
+  pub passes-on : none ≤ best → (next : Verdict) → next ≡ (filledVerdict table then next)
+  passes-on l next = simp (passes l)

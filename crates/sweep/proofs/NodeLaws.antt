@@ -1,0 +1,237 @@
+-- The loops over the nodes: what a visit adds, and where they begin.
+use mathlib.Core.Bool.{Bool, true, false, cond}
+use mathlib.Core.List.{List}
+use mathlib.Core.Logic.{⊎-elim}
+use mathlib.Core.Path.{_≡_, refl, sym, _∙_, ap}
+use Prim.Native.Nat.{ℕ, _+_, _≤_, _<_, min}
+use native.Mathlib.Decide.{decLt}
+use native.Mathlib.Omega.{arith}
+use lib.Dec.{ltb}
+use lib.ListN.{length, replicate}
+use borrow.Author.Tests.{ltb-true}
+use borrow.Rule.Slice.PartMut.{putMid}
+use Rattle.rules.specs.Table.{procedures, nodes, body}
+use Rattle.rules.proofs.ChoiceLaws.{bool-cases}
+use Rattle.calls.specs.Blocks.{Blocks, more}
+use Rattle.calls.specs.Blocks
+use Rattle.calls.proofs.BlockLaws.{blocks-called}
+use Rattle.table.specs.declared.Header.{Header}
+use Rattle.table.specs.Sized.{Sized}
+use Rattle.table.proofs.TestLaws.{never}
+use Rattle.visit.specs.declared.Visit.{Visit}
+use Rattle.visit.specs.Exact.{nodeBest, nodeMarks}
+use Rattle.visit.specs.Facts.{ruleCode}
+use Rattle.visit.specs.Fields.{usedPlane}
+use Rattle.visit.specs.Least.{none, leastBelow}
+use Rattle.visit.specs.Visited.{Visited}
+use Rattle.visit.proofs.FactLaws.{facts-none}
+use Rattle.visit.proofs.LeastLaws.{least-more}
+use Rattle.visit.proofs.PlaneLaws.{used-length, used-put-used}
+use Rattle.sweep.specs.declared.Blocked.{Blocked}
+use Rattle.sweep.specs.declared.Reached.{Reached}
+use Rattle.sweep.specs.Nodes.{JudgedTo, Fails, Going, Quickly, InBlocks, AllNodes}
+use Rattle.sweep.specs.Swept.{SweptTo}
+use Rattle.sweep.proofs.EndLaws.{quick-swept, swept-none, node-length}
+use Rattle.sweep.proofs.SweptLaws.{node-swept}
+
+abbrev visiting : Visit → ℕ → Visit
+visiting first n =
+    record { header = first .header; node = n; low = first .low; limit = first .limit; judged = first .judged }
+
+module _ (table : List ℕ) (first : Visit) (end start : ℕ) (before : List ℕ) where
+  pub going-none : first .node ≤ end → length before ≡ 16 → start ≤ none
+      → Going table first end start before before (first .node) start
+  going-none inside size low =
+      record {
+        from = omega arith;
+        to = inside;
+        size = size;
+        low = low;
+        marks = λ best swept. swept;
+        enclosed = λ k from to. absurd (omega arith);
+        judged = λ strictly so-far. so-far;
+      }
+
+  pub going-more : Sized table (first .header) → end ≤ nodes table
+      → (n rule found rule′ : ℕ) (now after : List ℕ)
+      → Going table first end start before now n rule
+      → n < end
+      → Visited table (visiting first n) now after found
+      → (found ≡ 0 → ⊥)
+      → rule′ ≡ min rule found
+      → Going table first end start before after (n + 1) rule′
+  going-more sized all n rule found rule′ now after g inside visited taken least =
+      record {
+        from = omega (arith, g .from);
+        to = omega arith;
+        size = visited .size;
+        low = omega (arith, least, g .low);
+        marks = λ best swept.
+            quick-swept (sized .nodes-high) (omega arith) (visited .taken taken) (g .marks best swept);
+        enclosed = λ k from to. elim (decLt k n) [
+          | yes earlier ↦ g .enclosed k from earlier
+          | no here ↦ let same : k ≡ n = omega arith in rw same (visited .enclosed taken)
+        ];
+        judged = λ strictly so-far.
+            let old = g .judged strictly so-far in
+            let new = visited .judged taken strictly (old .0) in
+            (new .0, least ∙ rw (old .1, new .1) (sym (least-more (ruleCode table) n)));
+      }
+
+-- before the first node
+judged-none : (table : List ℕ) → JudgedTo table 0 none (replicate 16 0)
+unfolding leastBelow
+judged-none table = (facts-none table, refl)
+
+-- block by block: the blocks of the procedures below p end before node n
+
+pub record Blocking (table : List ℕ) (judged : Bool) (planes : List ℕ) (n p rule : ℕ) : Type 0 where
+  pub to : n ≤ nodes table
+  pub within : p ≤ procedures table
+  pub size : length planes ≡ 16
+  pub low : rule ≤ none
+  pub marks : SweptTo table n none (usedPlane planes)
+  pub judge : judged ≡ true → JudgedTo table n rule planes
+  pub blocks : Blocks table n p
+
+-- the block of procedure p, where there is one from node n on
+pub block-is : (table : List ℕ) (p n end : ℕ) → end ≡ cond (ltb (body table p) (nodes table)) (body table p + 1) 0 → n < end
+    → (end ≡ body table p + 1) × (body table p < nodes table)
+block-is table p n end e inside =
+    ⊎-elim
+    (λ (h : ltb (body table p) (nodes table) ≡ true). (e ∙ simp h, ltb-true _ _ h))
+    (λ (h : ltb (body table p) (nodes table) ≡ false). let z : end ≡ 0 = e ∙ simp h in absurd (omega arith))
+    (bool-cases (ltb (body table p) (nodes table)))
+
+module _ (table : List ℕ) (judged : Bool) where
+  pub blocking-none : Blocking table judged (replicate 16 0) 0 0 none
+  blocking-none =
+      record {
+        to = omega arith;
+        within = omega arith;
+        size = refl;
+        low = omega arith;
+        marks = swept-none table;
+        judge = λ strictly. judged-none table;
+        blocks = Blocks.none;
+      }
+
+  module _ {planes : List ℕ} {n p rule : ℕ} (b : Blocking table judged planes n p rule) where
+    pub blocking-stops : InBlocks table judged planes (record { node = n; rule = rule; ordered = false })
+    blocking-stops =
+        record {
+          to = b .to;
+          size = b .size;
+          low = b .low;
+          marks = b .marks;
+          judge = b .judge;
+          called = λ e. never (sym e);
+        }
+
+    pub blocking-ends : p ≡ procedures table → InBlocks table judged planes (record { node = n; rule = rule; ordered = true })
+    blocking-ends all =
+        record {
+          to = b .to;
+          size = b .size;
+          low = b .low;
+          marks = b .marks;
+          judge = b .judge;
+          called = λ e. blocks-called table n (rw all at (b .blocks));
+        }
+
+    abbrev in-block : Header → Visit
+    in-block header = record { header = header; node = n; low = n; limit = p; judged = judged }
+
+    module _ (header : Header) (end : ℕ) (within : end ≤ nodes table) (after : List ℕ) (r : Reached)
+        (q : Quickly table (in-block header) end rule planes after r) where
+      pub block-stops : InBlocks table judged after (record { node = r .node; rule = r .rule; ordered = false })
+      block-stops =
+          record {
+            to = omega (arith, q .going .to);
+            size = q .going .size;
+            low = q .going .low;
+            marks = q .going .marks none (b .marks);
+            judge = λ strictly. q .going .judged strictly (b .judge strictly);
+            called = λ e. never (sym e);
+          }
+
+      pub block-more : p < procedures table → n < end → end ≡ body table p + 1 → (r .node < end → ⊥)
+          → Blocking table judged after (r .node) (p + 1) (r .rule)
+      block-more here inside last whole =
+          let all : r .node ≡ body table p + 1 = omega (arith, q .going .to) in
+          record {
+            to = omega (arith, q .going .to);
+            within = omega arith;
+            size = q .going .size;
+            low = q .going .low;
+            marks = q .going .marks none (b .marks);
+            judge = λ strictly. q .going .judged strictly (b .judge strictly);
+            blocks =
+                rw all
+                (more n p (b .blocks) (omega arith) (λ k from to. q .going .enclosed k from (omega arith)));
+          }
+
+-- the nodes from there on, wherever they stand
+
+pub record Resting (table : List ℕ) (judged : Bool) (planes : List ℕ) (best : ℕ) (r : Reached) : Type 0 where
+  pub to : r .node ≤ nodes table
+  pub size : length planes ≡ 16
+  pub low : r .rule ≤ none
+  pub high : best ≤ none
+  pub marks : SweptTo table (r .node) best (usedPlane planes)
+  pub judge : judged ≡ true → best ≡ none → JudgedTo table (r .node) (r .rule) planes
+  pub stuck : r .node < nodes table → Fails table (r .node) planes
+
+module _ (table : List ℕ) (header : Header) (sized : Sized table header) (judged : Bool) where
+  abbrev from-node : ℕ → Visit
+  from-node n = record { header = header; node = n; low = 0; limit = header .procedures; judged = judged }
+
+  pub resting-none : (blocked : Blocked) (planes after : List ℕ) (r : Reached) → InBlocks table judged planes blocked
+      → Quickly table (from-node (blocked .node)) (header .nodes) (blocked .rule) planes after r
+      → Resting table judged after none r
+  resting-none blocked planes after r b q =
+      record {
+        to = omega (arith, q .going .to, sized .nodes-read);
+        size = q .going .size;
+        low = q .going .low;
+        high = omega arith;
+        marks = q .going .marks none (b .marks);
+        judge = λ strictly clean. q .going .judged strictly (b .judge strictly);
+        stuck = λ inside. q .stuck (omega (arith, sized .nodes-read)) refl (sized .procedures-read);
+      }
+
+  pub resting-more : (planes words after : List ℕ) (best best′ : ℕ) (now r : Reached) → Resting table judged planes best now
+      → now .node < nodes table
+      → best′ ≡ nodeBest table (now .node) (usedPlane planes) best
+      → words ≡ nodeMarks table (now .node) (usedPlane planes)
+      → Quickly table (from-node (now .node + 1)) (header .nodes) (now .rule) (putMid 0 8 planes words) after r
+      → Resting table judged after best′ r
+  resting-more planes words after best best′ now r s inside found noted q =
+      let fails : best′ < none = rw found (s .stuck inside best (s .high)) in
+      let many : length words ≡ 8 =
+      ap length noted ∙ node-length table (now .node) (usedPlane planes) ∙ used-length planes (s .size) in
+      let swept : SweptTo table (now .node + 1) best′ (usedPlane (putMid 0 8 planes words)) =
+      rw (used-put-used planes (s .size) words many, found, noted)
+      (node-swept table (sized .nodes-high) (now .node) inside best (usedPlane planes) (s .marks)) in
+      record {
+        to = omega (arith, q .going .to, sized .nodes-read);
+        size = q .going .size;
+        low = q .going .low;
+        high = omega arith;
+        marks = q .going .marks best′ swept;
+        judge = λ strictly clean. absurd (omega arith);
+        stuck = λ more. q .stuck (omega (arith, sized .nodes-read)) refl (sized .procedures-read);
+      }
+
+  pub resting-ends : (planes before : List ℕ) (best : ℕ) (now : Reached) (blocked : Blocked)
+      → Resting table judged planes best now
+      → (now .node < header .nodes → ⊥) → InBlocks table judged before blocked
+      → AllNodes table judged planes (record { best = best; rule = now .rule; ordered = blocked .ordered })
+  resting-ends planes before best now blocked s end b =
+      let all : now .node ≡ nodes table = omega (arith, s .to, sized .nodes-read) in
+      record {
+        size = s .size;
+        marks = rw all at (s .marks);
+        judge = λ strictly clean. rw all at (s .judge strictly clean);
+        called = b .called;
+      }

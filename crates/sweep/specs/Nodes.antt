@@ -1,0 +1,58 @@
+-- What the loops over the nodes establish.
+use mathlib.Core.Bool.{Bool, true}
+use mathlib.Core.List.{List}
+use mathlib.Core.Path.{_≡_}
+use Prim.Native.Nat.{ℕ, _≤_, _<_}
+use lib.ListN.{length}
+use Rattle.rules.specs.declared.Verdict.the-variants.{Accepted}
+use Rattle.rules.specs.Table.{procedures, nodes}
+use Rattle.rules.specs.WellFormed.{question12}
+use Rattle.table.specs.Uses.{Enclosed}
+use Rattle.visit.specs.declared.Visit.{Visit}
+use Rattle.visit.specs.Exact.{nodeBest}
+use Rattle.visit.specs.Facts.{ruleCode, FactsTo}
+use Rattle.visit.specs.Fields.{usedPlane, factsPlane}
+use Rattle.visit.specs.Least.{none, leastBelow}
+use Rattle.sweep.specs.declared.Blocked.{Blocked}
+use Rattle.sweep.specs.declared.Reached.{Reached}
+use Rattle.sweep.specs.declared.Found.{Found}
+use Rattle.sweep.specs.Swept.{SweptTo, AfterNodes}
+
+-- the facts of the nodes below n, and the least refusal of 13 to 16 at them
+abbrev pub JudgedTo : List ℕ → ℕ → ℕ → List ℕ → Type 0
+JudgedTo table n rule planes = FactsTo table n (factsPlane planes) × (rule ≡ leastBelow (ruleCode table) n)
+
+-- something fails at node n
+abbrev pub Fails : List ℕ → ℕ → List ℕ → Type 0
+Fails table n planes = (best : ℕ) → best ≤ none → nodeBest table n (usedPlane planes) best < none
+
+-- the nodes from `first` up to n are swept, and nothing failed at them
+pub record Going (table : List ℕ) (first : Visit) (end start : ℕ) (before after : List ℕ) (n rule : ℕ) : Type 0 where
+  pub from : first .node ≤ n
+  pub to : n ≤ end
+  pub size : length after ≡ 16
+  pub low : rule ≤ none
+  pub marks : (best : ℕ) → SweptTo table (first .node) best (usedPlane before) → SweptTo table n best (usedPlane after)
+  pub enclosed : (k : ℕ) → first .node ≤ k → k < n → Enclosed table k (first .low) (first .limit)
+  pub judged : first .judged ≡ true → JudgedTo table (first .node) start before → JudgedTo table n rule after
+
+-- up to `end`, or to a node at which something fails if no block bounds its parts and calls
+pub record Quickly (table : List ℕ) (first : Visit) (end start : ℕ) (before after : List ℕ) (r : Reached) : Type 0 where
+  pub going : Going table first end start before after (r .node) (r .rule)
+  pub stuck : r .node < end → first .low ≡ 0 → first .limit ≡ procedures table → Fails table (r .node) after
+
+-- block by block. If every procedure had its block, every call names a procedure below its own.
+pub record InBlocks (table : List ℕ) (judged : Bool) (planes : List ℕ) (r : Blocked) : Type 0 where
+  pub to : r .node ≤ nodes table
+  pub size : length planes ≡ 16
+  pub low : r .rule ≤ none
+  pub marks : SweptTo table (r .node) none (usedPlane planes)
+  pub judge : judged ≡ true → JudgedTo table (r .node) (r .rule) planes
+  pub called : r .ordered ≡ true → question12 table ≡ Accepted
+
+-- all nodes. The facts matter only where no earlier question fails.
+pub record AllNodes (table : List ℕ) (judged : Bool) (planes : List ℕ) (r : Found) : Type 0 where
+  pub size : length planes ≡ 16
+  pub marks : AfterNodes table (r .best) (usedPlane planes)
+  pub judge : judged ≡ true → r .best ≡ none → JudgedTo table (nodes table) (r .rule) planes
+  pub called : r .ordered ≡ true → question12 table ≡ Accepted

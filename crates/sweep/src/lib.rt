@@ -1,0 +1,127 @@
+// Questions 2 to 17 in one exact sweep: each node once, each procedure once, and the least refusal kept. "Lowest number first, then
+// lowest place" is the least of all refusals, so they may be met in any order.
+ghost use mathlib.Core.Path.{_≡_};
+ghost use mathlib.Core.Bool.{true};
+ghost use lib.ListN.{length, replicate};
+ghost use Rattle.rules.specs.Acceptance.{judged};
+ghost use Rattle.rules.specs.Answers.{_then_};
+ghost use Rattle.rules.specs.Table.{nodes};
+ghost use Rattle.rules.specs.WellFormed.{question12, wellFormed};
+ghost use Rattle.rules.specs.declared.Verdict.the-variants.{Accepted};
+ghost use Rattle.sweep.specs.Asked.{Filled, FirstCall, callsAsked, asked};
+ghost use Rattle.sweep.specs.Nodes.{JudgedTo};
+ghost use Rattle.sweep.specs.Swept.{filledVerdict};
+ghost use Rattle.table.specs.Sized.{Sized};
+use crate::bodies::sweep_uses;
+use crate::bodies::unflagged;
+use crate::nodes::sweep_nodes;
+use calls::first_miscalled;
+use rules::Verdict;
+use table::Header;
+use table::marks::clear;
+use table::shape::refused;
+use table::shape::shape;
+use table::words::header;
+use visit::least::NONE;
+use visit::least::verdict;
+
+mod bodies; // bodies.rt: questions 6, 10 and 17, and 11 of nodes that are not used
+mod nodes; // nodes.rt: questions 7, 8, 9, 13 to 16 and 11 of nodes that are used twice
+
+// The planes: the nodes used, later those that wait in question 12; and the facts.
+pub const PLANE_WORDS: usize = 16;
+
+// How far a sweep got, and the least refusal of 13 to 16 on the way.
+pub struct Reached {
+    pub node: usize,
+    pub rule: usize,
+}
+
+// The same, and whether every procedure had its block, in their order.
+pub struct Blocked {
+    pub node: usize,
+    pub rule: usize,
+    pub ordered: bool,
+}
+
+// Of all nodes: the least refusal of 7, 8, 9 and 11, and that of 13 to 16.
+pub struct Found {
+    pub best: usize,
+    pub rule: usize,
+    pub ordered: bool,
+}
+
+// Question 12 of a table that passes 2 to 11: the walk only where the procedures do not lie in blocks.
+fn first_call(table: &[u8], header: Header, planes: &mut [u32], ordered: bool) -> usize
+    requires { ⌜ Filled (now table) header × (length (now planes) ≡ 16) × (ordered ≡ true → question12 (now table) ≡ Accepted) ⌝ }
+    ensures { λ r. ⌜ FirstCall (now (table .entry)) (now (planes .entry)) (now (planes .exit)) r ⌝ }
+{
+    if ordered {
+        return header.nodes;
+    }
+    clear(&mut planes[0..8]);
+    first_miscalled(table, header, &mut planes[0..8])
+}
+
+// Questions 12 to 17 of a table that passes 2 to 11, the last five only if it is judged.
+fn ask_calls(
+    table: &[u8],
+    header: Header,
+    planes: &mut [u32],
+    judged: bool,
+    found: Found,
+) -> Verdict
+    requires { ⌜ Filled (now table) header × (length (now planes) ≡ 16) × (found .ordered ≡ true → question12 (now table) ≡ Accepted) ⌝ }
+    requires { ⌜ (judged ≡ true → JudgedTo (now table) (nodes (now table)) (found .rule) (now planes)) ⌝ }
+    ensures { λ r. ⌜ r ≡ callsAsked judged (now (table .entry)) ⌝ }
+{
+    let call = first_call(table, header, planes, found.ordered);
+    if call < header.nodes {
+        return refused(12, call as u32);
+    }
+    if judged {
+        return verdict(unflagged(table, header, planes, found.rule));
+    }
+    Verdict::Accepted
+}
+
+// Questions 6 to 17 of a table that passes 2 to 5.
+fn ask_contents(table: &[u8], header: Header, planes: &mut [u32], judged: bool) -> Verdict
+    requires { ⌜ Sized (now table) header × (now planes ≡ replicate 16 0) ⌝ }
+    ensures { λ r. ⌜ r ≡ (filledVerdict (now (table .entry)) then callsAsked judged (now (table .entry))) ⌝ }
+{
+    let found = sweep_nodes(table, header, planes, judged);
+    let best = sweep_uses(table, header, &mut planes[0..8], found.best);
+    if best < NONE {
+        return verdict(best);
+    }
+    ask_calls(table, header, planes, judged, found)
+}
+
+// Questions 2 to 17, the last five only if the table is judged, over planes that are zero.
+fn ask(table: &[u8], planes: &mut [u32], judged: bool) -> Verdict
+    requires { ⌜ now planes ≡ replicate 16 0 ⌝ }
+    ensures { λ r. ⌜ r ≡ asked judged (now (table .entry)) ⌝ }
+{
+    let shaped = shape(table);
+    match shaped {
+        Verdict::Refused(_) => shaped,
+        Verdict::Accepted => ask_contents(table, header(table), planes, judged),
+    }
+}
+
+// Questions 2 to 12.
+pub fn well_formed(table: &[u8], planes: &mut [u32]) -> Verdict
+    requires { ⌜ now planes ≡ replicate 16 0 ⌝ }
+    ensures { λ r. ⌜ r ≡ wellFormed (now (table .entry)) ⌝ }
+{
+    ask(table, planes, false)
+}
+
+// Questions 2 to 17.
+pub fn accepted(table: &[u8], planes: &mut [u32]) -> Verdict
+    requires { ⌜ now planes ≡ replicate 16 0 ⌝ }
+    ensures { λ r. ⌜ r ≡ (wellFormed (now (table .entry)) then judged (now (table .entry))) ⌝ }
+{
+    ask(table, planes, true)
+}

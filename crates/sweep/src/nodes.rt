@@ -1,0 +1,171 @@
+// All nodes in their order: quickly while nothing fails, in the blocks of the procedures as long as these follow one another.
+ghost use mathlib.Core.Bool.{cond};
+ghost use mathlib.Core.Path.{_≡_};
+ghost use Prim.Native.Nat.{_+_, _<_, _≤_, min};
+ghost use lib.Dec.{ltb};
+ghost use lib.ListN.{length, replicate};
+ghost use Rattle.rules.specs.Table.{nodes, body};
+ghost use Rattle.sweep.specs.Nodes.{Quickly, InBlocks, AllNodes};
+ghost use Rattle.table.specs.Sized.{Sized};
+ghost use Rattle.visit.specs.Least.{none};
+use crate::Blocked;
+use crate::Found;
+use crate::Reached;
+use table::Header;
+use table::words::body;
+use visit::STUCK;
+use visit::Visit;
+use visit::exact::exact;
+use visit::least::NONE;
+use visit::quick::quick;
+
+// Most nodes have no refusal, and then nothing is compared.
+fn lesser(rule: usize, found: usize) -> usize
+    requires { ⌜ rule ≤ none ⌝ }
+    ensures { λ r. ⌜ r ≡ min rule found ⌝ }
+{
+    if found == NONE {
+        return rule;
+    }
+    if found < rule { found } else { rule }
+}
+
+// On over the nodes at which nothing fails, up to `end` or the first that is stuck.
+fn sweep_quickly(
+    table: &[u8],
+    planes: &mut [u32],
+    first: Visit,
+    end: usize,
+    start: usize,
+) -> Reached
+    requires { ⌜ Sized (now table) (first .header) × (first .node ≤ end) × (end ≤ first .header .nodes) × (length (now planes) ≡ 16) × (start ≤ none) ⌝ }
+    ensures { λ r. ⌜ Quickly (now (table .entry)) first end start (now (planes .entry)) (now (planes .exit)) r ⌝ }
+{
+    let header = first.header;
+    let mut rule = start;
+    let mut n = first.node;
+    while n < end {
+        let visit = Visit {
+            header: header,
+            node: n,
+            low: first.low,
+            limit: first.limit,
+            judged: first.judged,
+        };
+        let found = quick(table, planes, visit);
+        if found == STUCK {
+            return Reached {
+                node: n,
+                rule: rule,
+            };
+        }
+        rule = lesser(rule, found);
+        n += 1;
+    }
+    Reached {
+        node: n,
+        rule: rule,
+    }
+}
+
+// The end of procedure p's block, which its body is the last node of; 0 where the body is no node.
+fn block_end(table: &[u8], header: Header, p: usize) -> usize
+    requires { ⌜ Sized (now table) header × (p < header .procedures) ⌝ }
+    ensures { λ r. ⌜ r ≡ cond (ltb (body (now (table .entry)) p) (nodes (now (table .entry)))) (body (now (table .entry)) p + 1) 0 ⌝ }
+{
+    let last = body(table, p);
+    if last < header.nodes { last + 1 } else { 0 }
+}
+
+// Block by block, as long as each procedure's nodes stand together and call lower procedures only.
+fn sweep_blocks(table: &[u8], header: Header, planes: &mut [u32], judged: bool) -> Blocked
+    requires { ⌜ Sized (now table) header × (now planes ≡ replicate 16 0) ⌝ }
+    ensures { λ r. ⌜ InBlocks (now (table .entry)) judged (now (planes .exit)) r ⌝ }
+{
+    let count = header.procedures;
+    let mut rule = NONE;
+    let mut n = 0;
+    let mut p = 0;
+    while p < count {
+        let end = block_end(table, header, p);
+        if end <= n {
+            return Blocked {
+                node: n,
+                rule: rule,
+                ordered: false,
+            };
+        }
+        let first = Visit {
+            header: header,
+            node: n,
+            low: n,
+            limit: p,
+            judged: judged,
+        };
+        let reached = sweep_quickly(table, planes, first, end, rule);
+        rule = reached.rule;
+        n = reached.node;
+        if n < end {
+            return Blocked {
+                node: n,
+                rule: rule,
+                ordered: false,
+            };
+        }
+        p += 1;
+    }
+    Blocked {
+        node: n,
+        rule: rule,
+        ordered: true,
+    }
+}
+
+// The nodes from there on, wherever they stand.
+fn sweep_rest(
+    table: &[u8],
+    header: Header,
+    planes: &mut [u32],
+    judged: bool,
+    blocked: Blocked,
+) -> Found
+    requires { ⌜ Sized (now table) header × InBlocks (now table) judged (now planes) blocked ⌝ }
+    ensures { λ r. ⌜ AllNodes (now (table .entry)) judged (now (planes .exit)) r ⌝ }
+{
+    let count = header.nodes;
+    let limit = header.procedures;
+    let mut best = NONE;
+    let first = Visit {
+        header: header,
+        node: blocked.node,
+        low: 0,
+        limit: limit,
+        judged: judged,
+    };
+    let mut reached = sweep_quickly(table, planes, first, count, blocked.rule);
+    while reached.node < count {
+        let n = reached.node;
+        best = exact(table, header, &mut planes[0..8], best, n);
+        let next = Visit {
+            header: header,
+            node: n + 1,
+            low: 0,
+            limit: limit,
+            judged: judged,
+        };
+        reached = sweep_quickly(table, planes, next, count, reached.rule);
+    }
+    Found {
+        best: best,
+        rule: reached.rule,
+        ordered: blocked.ordered,
+    }
+}
+
+pub(crate) fn sweep_nodes(table: &[u8], header: Header, planes: &mut [u32], judged: bool) -> Found
+    requires { ⌜ Sized (now table) header × (now planes ≡ replicate 16 0) ⌝ }
+    ensures { λ r. ⌜ AllNodes (now (table .entry)) judged (now (planes .exit)) r ⌝ }
+{
+    let blocked = sweep_blocks(table, header, planes, judged);
+    sweep_rest(table, header, planes, judged, blocked)
+}

@@ -1,0 +1,22 @@
+-- `words::kind_at` meets its contract.
+use Rattle.table.specs.Header.{headerOf}
+use Rattle.rules.specs.Table.{nodeAt, unpacked}
+use borrow.Author.Needs.{needs}
+use Rattle.table.proofs.words.kind_at.Statement.{statement}
+use Rattle.table.proofs.words.kind_at.Tie as tie
+
+add-word : tie.Need-add-word
+add-word c = search needs
+
+add-word-2 : tie.Need-add-word-2
+add-word-2 c = search needs
+
+word-requires : tie.Need-word-requires
+word-requires c κs = search needs
+
+returns : tie.Need-returns
+unfolding nodeAt unpacked headerOf
+returns c = simp (c .word .ensures, c .before .before .before .pre .0)
+
+pub kind-at-spec : {M : Type 1} → statement M
+kind-at-spec = tie.close (tie.spec add-word add-word-2 word-requires returns)

@@ -1,0 +1,251 @@
+-- The plane of facts, and what the fact and the refusal by 13 to 16 of a node are, by its kind, from the facts of its parts.
+use mathlib.Core.Bool.{Bool, true, false, cond, not, _&&_, _||_, or-false, Bool·not-not}
+use mathlib.Core.List.{List}
+use mathlib.Core.Logic.{⊎-elim}
+use mathlib.Core.Path.{_≡_, refl, sym, _∙_}
+use Prim.Native.Nat.{ℕ, zero, suc, _+_, _-_, _≤_, _<_}
+use native.Mathlib.Decide.{decLt}
+use native.Mathlib.Omega.{arith}
+use lib.Dec.{leb}
+use lib.ListN.{length, getD, replicate, length-replicate}
+use borrow.Author.Tests.{leb-true}
+use Rattle.rules.specs.declared.Node.{Node}
+use Rattle.rules.specs.Acceptance.{ruleOf}
+use Rattle.rules.specs.Below.{below, atNode}
+use Rattle.rules.specs.Judgement.{singleOf, single, effectOf, effect}
+use Rattle.rules.specs.Table.{flagged, nodeAt, expressionOf, expressionAt, statementOf, statementAt}
+use Rattle.rules.specs.WellFormed.{isExpression, isStatement}
+use Rattle.rules.proofs.AnswerLaws.{both-left}
+use Rattle.rules.proofs.BelowLaws.{below-at}
+use Rattle.rules.proofs.ChoiceLaws.{bool-cases}
+use Rattle.rules.proofs.KindLaws.{operation-of}
+use Rattle.table.specs.Marks.{bitAt, withBit}
+use Rattle.table.proofs.BitLaws.{length-withBit, bit-same, bit-other, bit-zero}
+use Rattle.visit.specs.Facts.{fact, ruleCode, FactsTo}
+use Rattle.visit.specs.Least.{none, code, failure}
+
+-- the plane
+
+pub facts-none : (table : List ℕ) → FactsTo table 0 (replicate 8 0)
+facts-none table =
+    record {
+      size = length-replicate {A = ℕ} 8 0;
+      known = λ k l. absurd (omega arith);
+      clear = λ k h l. bit-zero 8 k;
+    }
+
+-- one node more is judged where its own bit is right and the others are kept
+module _ (table : List ℕ) (n : ℕ) (before after : List ℕ) (low : n < 256) (facts : FactsTo table n before) where
+  one-more : length after ≡ 8 → ((k : ℕ) → (k ≡ n → ⊥) → bitAt after k ≡ bitAt before k) → bitAt after n ≡ fact table n
+      → FactsTo table (n + 1) after
+  one-more size kept here =
+      record {
+        size = size;
+        known = λ k l.
+            elim (decLt k n) [
+              | yes below ↦ kept k (omega arith) ∙ facts .known k below
+              | no above ↦ let same : k ≡ n = omega arith in rw same here
+            ];
+        clear = λ k h l. kept k (omega arith) ∙ facts .clear k (omega arith) l;
+      }
+
+  pub facts-more : after ≡ cond (fact table n) (withBit before n) before → FactsTo table (n + 1) after
+  facts-more e =
+      ⊎-elim
+      (λ (t : fact table n ≡ true).
+      let marked : after ≡ withBit before n = e ∙ simp t in
+      one-more (rw marked (length-withBit before n ∙ facts .size)) (λ k other. rw marked (bit-other before n k other))
+      (rw (marked, t) (bit-same before n (omega (arith, facts .size)))))
+      (λ (f : fact table n ≡ false).
+      let same : after ≡ before = e ∙ simp f in
+      one-more (rw same (facts .size)) (λ k other. rw same)
+      (rw (same, f) (facts .clear n (omega arith) low)))
+      (bool-cases (fact table n))
+
+-- a node and its parts
+
+-- what is judged of node a where the nodes below n are
+unfoldable pub earlierSingle : List ℕ → ℕ → ℕ → Bool
+earlierSingle table n a =
+    getD (below (λ earlier k. singleOf table (λ i. getD earlier i false) (expressionAt table k)) n) a false
+
+unfoldable pub earlierEffect : List ℕ → ℕ → ℕ → Bool
+earlierEffect table n a =
+    getD (below (λ earlier k. effectOf table (λ i. getD earlier i false) (statementAt table k)) n) a false
+
+module _ (table : List ℕ) (n : ℕ) where
+  single-once : single table n ≡ singleOf table (earlierSingle table n) (expressionOf (nodeAt table n))
+  unfolding single atNode earlierSingle expressionAt
+  single-once = refl
+
+  effect-once : effect table n ≡ effectOf table (earlierEffect table n) (statementOf (nodeAt table n))
+  unfolding effect atNode earlierEffect statementAt
+  effect-once = refl
+
+  -- the fact of the node from these; it computes once the kind is known
+  unfoldable pub once : Node → Bool
+  unfolding expressionOf statementOf singleOf effectOf
+  once m =
+      not (singleOf table (earlierSingle table n) (expressionOf m)) || effectOf table (earlierEffect table n) (statementOf m)
+
+  fact-once : fact table n ≡ once (nodeAt table n)
+  unfolding fact once
+  fact-once = rw (single-once, effect-once)
+
+  -- a node is of one sort
+
+  fact-expression : isExpression table n ≡ true → fact table n ≡ not (single table n)
+  unfolding fact isExpression statementOf effectOf
+  fact-expression e =
+      let low = leb-true (nodeAt table n .kind) 12 e in
+      let other : nodeAt table n .kind - 16 ≡ 0 = omega arith in
+      let free : effect table n ≡ false = effect-once ∙ simp other in
+      simp (free, or-false)
+
+  pub fact-statement : isStatement table n ≡ true → fact table n ≡ effect table n
+  unfolding fact isStatement expressionOf singleOf
+  fact-statement e =
+      let kind = nodeAt table n .kind in
+      let high = leb-true 16 kind (both-left (leb 16 kind) (leb kind 25) e) in
+      let other : kind ≡ suc (suc (suc (suc (suc (suc (suc (suc (suc (suc (suc (suc (suc (kind - 13))))))))))))) = omega arith in
+      let free : single table n ≡ true = single-once ∙ rw other in
+      simp free
+
+  single-fact : isExpression table n ≡ true → single table n ≡ not (fact table n)
+  single-fact e = simp (fact-expression e, Bool·not-not)
+
+-- parts that lie below the node
+module _ (table : List ℕ) (n a : ℕ) (l : a < n) where
+  single-part : isExpression table a ≡ true → earlierSingle table n a ≡ not (fact table a)
+  unfolding earlierSingle single
+  single-part e = below-at _ n a false l ∙ single-fact table a e
+
+  effect-part : isStatement table a ≡ true → earlierEffect table n a ≡ fact table a
+  unfolding earlierEffect effect
+  effect-part e = below-at _ n a false l ∙ sym (fact-statement table a e)
+
+-- laws of tests
+
+neither : (x y : Bool) → (not x && not y) ≡ not (x || y)
+neither true y = refl
+neither false y = refl
+
+-- a rule that fails where two things hold
+fails-both : (q n : ℕ) (x y : Bool) → failure q n (not x || not y) ≡ cond x (cond y (code q n) none) none
+fails-both q n true true = refl
+fails-both q n true false = refl
+fails-both q n false y = refl
+
+swapped : (x y : Bool) (p : ℕ) → cond x (cond y p none) none ≡ cond y (cond x p none) none
+swapped true true p = refl
+swapped true false p = refl
+swapped false true p = refl
+swapped false false p = refl
+
+-- by kind
+module _ (table : List ℕ) (n : ℕ) where
+  abbrev kind : ℕ
+  kind = nodeAt table n .kind
+
+  abbrev a : ℕ
+  a = nodeAt table n .a
+
+  abbrev b : ℕ
+  b = nodeAt table n .b
+
+  abbrev c : ℕ
+  c = nodeAt table n .c
+
+  -- kinds whose parts do not matter
+
+  pub fact-as : (k : ℕ) → kind ≡ k → fact table n ≡ once table n (record { kind = k; a = a; b = b; c = c })
+  fact-as k e = fact-once table n ∙ rw (← e) refl
+
+  pub fact-1 : kind ≡ 1 → fact table n ≡ not (flagged table a)
+  unfolding once
+  fact-1 e = fact-once table n ∙ simp (e, or-false)
+
+  pub fact-17 : kind ≡ 17 → fact table n ≡ flagged table a
+  unfolding once
+  fact-17 e = fact-once table n ∙ simp e
+
+  pub fact-24 : kind ≡ 24 → fact table n ≡ true
+  unfolding once
+  fact-24 e = fact-once table n ∙ simp e
+
+  -- expressions of parts
+
+  pub fact-5 : kind ≡ 5 → a < n → isExpression table a ≡ true → fact table n ≡ fact table a
+  unfolding once
+  fact-5 e l s = fact-once table n ∙ simp (e, or-false, single-part table n a l s, Bool·not-not)
+
+  pub fact-operation : 6 ≤ kind → kind ≤ 12 → a < n → b < n → isExpression table a ≡ true → isExpression table b ≡ true
+      → fact table n ≡ (fact table a || fact table b)
+  unfolding once
+  fact-operation low high l m s t =
+      let other : kind - 16 ≡ 0 = omega arith in
+      let first = single-part table n a l s in
+      let second = single-part table n b m t in
+      fact-once table n
+      ∙ simp (operation-of (nodeAt table n) low high, other, or-false, first, second, neither, Bool·not-not)
+
+  -- statements of parts
+
+  pub fact-18 : kind ≡ 18 → a < n → b < n → isStatement table a ≡ true → isStatement table b ≡ true
+      → fact table n ≡ (fact table a || fact table b)
+  unfolding once
+  fact-18 e l m s t = fact-once table n ∙ simp (e, effect-part table n a l s, effect-part table n b m t)
+
+  pub fact-19 : kind ≡ 19 → b < n → c < n → isStatement table b ≡ true → isStatement table c ≡ true
+      → fact table n ≡ (fact table b || fact table c)
+  unfolding once
+  fact-19 e l m s t = fact-once table n ∙ simp (e, effect-part table n b l s, effect-part table n c m t)
+
+  pub fact-20 : kind ≡ 20 → b < n → isStatement table b ≡ true → fact table n ≡ fact table b
+  unfolding once
+  fact-20 e l s = fact-once table n ∙ simp (e, effect-part table n b l s)
+
+  -- the refusals by 13 to 16
+
+  unasked : (j : ℕ) → kind - 16 ≡ j → (j ≡ 1 → ⊥) → (j ≡ 3 → ⊥) → (j ≡ 4 → ⊥) → (j ≡ 8 → ⊥) → ruleCode table n ≡ none
+  unfolding ruleCode ruleOf statementAt statementOf
+  unasked zero e p q r s = simp e
+  unasked (suc zero) e p q r s = absurd (p refl)
+  unasked (suc (suc zero)) e p q r s = simp e
+  unasked (suc (suc (suc zero))) e p q r s = absurd (q refl)
+  unasked (suc (suc (suc (suc zero)))) e p q r s = absurd (r refl)
+  unasked (suc (suc (suc (suc (suc zero))))) e p q r s = simp e
+  unasked (suc (suc (suc (suc (suc (suc zero)))))) e p q r s = simp e
+  unasked (suc (suc (suc (suc (suc (suc (suc zero))))))) e p q r s = simp e
+  unasked (suc (suc (suc (suc (suc (suc (suc (suc zero)))))))) e p q r s = absurd (s refl)
+  unasked (suc (suc (suc (suc (suc (suc (suc (suc (suc zero))))))))) e p q r s = simp e
+  unasked (suc (suc (suc (suc (suc (suc (suc (suc (suc (suc j)))))))))) e p q r s = simp e
+
+  pub rule-none : (kind ≡ 17 → ⊥) → (kind ≡ 19 → ⊥) → (kind ≡ 20 → ⊥) → (kind ≡ 24 → ⊥) → ruleCode table n ≡ none
+  rule-none p q r s =
+      unasked (kind - 16) refl (λ e. p (omega arith)) (λ e. q (omega arith)) (λ e. r (omega arith)) (λ e. s (omega arith))
+
+  pub rule-17 : kind ≡ 17 → isExpression table b ≡ true
+      → ruleCode table n ≡ cond (flagged table a) (cond (fact table b) (code 13 n) none) none
+  unfolding ruleCode ruleOf statementAt statementOf
+  rule-17 e s = simp (e, single-fact table b s) (fails-both 13 n (flagged table a) (fact table b))
+
+  pub rule-24 : kind ≡ 24 → isExpression table c ≡ true
+      → ruleCode table n ≡ cond (fact table c) (code 14 n) none
+  unfolding ruleCode ruleOf statementAt statementOf
+  rule-24 e s = simp (e, single-fact table c s) (fails-both 14 n true (fact table c))
+
+  pub rule-19 : kind ≡ 19 → isExpression table a ≡ true → isStatement table b ≡ true → isStatement table c ≡ true
+      → ruleCode table n ≡ cond (fact table b || fact table c) (cond (fact table a) (code 15 n) none) none
+  unfolding ruleCode ruleOf statementAt statementOf
+  rule-19 e s t u =
+      simp (e, single-fact table a s, ← fact-statement table b t, ← fact-statement table c u, neither)
+      (fails-both 15 n (fact table a) (fact table b || fact table c)
+      ∙ swapped (fact table a) (fact table b || fact table c) (code 15 n))
+
+  pub rule-20 : kind ≡ 20 → isExpression table a ≡ true → isStatement table b ≡ true
+      → ruleCode table n ≡ cond (fact table b) (cond (fact table a) (code 16 n) none) none
+  unfolding ruleCode ruleOf statementAt statementOf
+  rule-20 e s t =
+      simp (e, single-fact table a s, ← fact-statement table b t)
+      (fails-both 16 n (fact table a) (fact table b) ∙ swapped (fact table a) (fact table b) (code 16 n))

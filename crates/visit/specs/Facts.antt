@@ -1,0 +1,74 @@
+-- What the sweep keeps of the nodes for questions 13 to 17, and the refusals by them.
+use mathlib.Core.Bool.{Bool, true, false, cond, not, _&&_, _||_}
+use mathlib.Core.List.{List, [], _∷_}
+use mathlib.Core.Path.{_≡_}
+use Prim.Native.Nat.{ℕ, _%_, _≤_, _<_}
+use lib.Dec.{eqb}
+use lib.ListN.{length, getD}
+use Rattle.rules.specs.Acceptance.{ruleOf, bodyFlagged}
+use Rattle.rules.specs.Judgement.{single, effect}
+use Rattle.rules.specs.declared.Node.{Node}
+use Rattle.rules.specs.Table.{flagged, effectFlag, statementAt}
+use Rattle.table.specs.Marks.{bitAt, withBit}
+use Rattle.visit.specs.declared.Visit.{Visit}
+use Rattle.visit.specs.Fields.{usedPlane, factsPlane}
+use Rattle.visit.specs.Least.{none, code, failure}
+
+-- what the sweep keeps of a node for questions 13 to 17: an expression that is not single, or a statement with a global effect.
+-- A statement reads as a constant expression, which is single, and an expression as the statement nothing, which has no effect.
+unfoldable pub fact : List ℕ → ℕ → Bool
+fact table n = not (single table n) || effect table n
+
+-- the least refusal of 13 to 16 at node n
+unfoldable pub ruleCode : List ℕ → ℕ → ℕ
+ruleCode table n = failure (ruleOf table (statementAt table n) .question) n (ruleOf table (statementAt table n) .holds)
+
+-- and of 17 at procedure p
+unfoldable pub flagCode : List ℕ → ℕ → ℕ
+flagCode table p = failure 17 p (bodyFlagged table p)
+
+-- the plane of facts once the nodes below n are judged: one bit for each, and none from there on
+pub record FactsTo (table : List ℕ) (n : ℕ) (facts : List ℕ) : Type 0 where
+  pub size : length facts ≡ 8
+  pub known : (k : ℕ) → k < n → bitAt facts k ≡ fact table k
+  pub clear : (k : ℕ) → n ≤ k → k < 256 → bitAt facts k ≡ false
+
+-- where a node's fact comes from: nowhere, from the kind alone, from a variable's flag, from a procedure's, from parts. A field
+-- is read as a variable below 32 or as a node below 256, which it is where the node fits.
+module _ (table facts : List ℕ) (m : Node) where
+  abbrev bit : ℕ → Bool
+  bit n = bitAt facts (n % 256)
+
+  unfoldable pub sourced : ℕ → Bool
+  sourced source =
+      getD
+      (false
+      ∷ true
+      ∷ not (flagged table (m .a % 32))
+      ∷ flagged table (m .a % 32)
+      ∷ effectFlag table (m .a)
+      ∷ bit (m .a)
+      ∷ bit (m .b)
+      ∷ (bit (m .a) || bit (m .b))
+      ∷ [])
+      source
+      (bit (m .b) || bit (m .c))
+
+-- the refusal by a rule where there is an effect: its guard is not single. 0 stands for no rule.
+unfoldable pub ruled : Bool → ℕ → ℕ → ℕ
+ruled local question n = cond (eqb question 0) none (cond local (code question n) none)
+
+-- what is kept and answered of a node: nothing where its fields did not pass
+pub record Settled (table : List ℕ) (v : Visit) (m : Node) (used : Bool) (source question guard : ℕ) (before after : List ℕ)
+    (r : ℕ) : Type 0 where
+  pub answer : r
+      ≡ cond used
+      (cond (v .judged && sourced table (factsPlane before) m source)
+      (ruled (bitAt (factsPlane before) (guard % 256)) question (v .node)) none)
+      0
+  pub marks : usedPlane after ≡ usedPlane before
+  pub facts : factsPlane after
+      ≡ cond (used && (v .judged && sourced table (factsPlane before) m source)) (withBit (factsPlane before) (v .node))
+      (factsPlane before)
+  pub same : used ≡ false → after ≡ before
+  pub size : length after ≡ 16

@@ -1,0 +1,60 @@
+-- The fields of a node at which nothing fails, by their roles: each passes 8 and 9, and what it names is not used yet.
+use mathlib.Core.Bool.{Bool, true, false, cond, not, _&&_, _||_}
+use mathlib.Core.List.{List, _++_}
+use mathlib.Core.Path.{_≡_}
+use Prim.Native.Nat.{ℕ}
+use lib.Dec.{leb, ltb, eqb}
+use lib.ListN.{length, take, drop}
+use Rattle.rules.specs.declared.Node.{Node}
+use Rattle.table.specs.Marks.{bitAt, withBits}
+use Rattle.table.specs.Roles.{digit, isPart, fieldZero, fieldFits, fieldParts}
+use Rattle.visit.specs.declared.Visit.{Visit}
+
+-- a procedure that is called is below the limit, and a part is at or above the lowest
+unfoldable pub enclosed : ℕ → ℕ → ℕ → ℕ → Bool
+enclosed low limit role value = cond (eqb role 4) (ltb value limit) (not (isPart role) || leb low value)
+
+unfoldable pub fieldFree : List ℕ → List ℕ → Visit → ℕ → ℕ → Bool
+fieldFree table marks v role value =
+    fieldZero role value
+    && (fieldFits table (v .node) role value
+    && (enclosed (v .low) (v .limit) role value && (not (isPart role) || not (bitAt marks value))))
+
+-- two fields do not name one node
+unfoldable pub distinct : ℕ → ℕ → ℕ → ℕ → Bool
+distinct r x s y = not (isPart r) || (not (isPart s) || not (eqb x y))
+
+-- the three fields of a node, by the digits of its roles
+module _ (table marks : List ℕ) (v : Visit) (m : Node) (roles : ℕ) where
+  unfoldable pub fieldsFree : Bool
+  fieldsFree =
+      fieldFree table marks v (digit roles 100) (m .a)
+      && (fieldFree table marks v (digit roles 10) (m .b)
+      && (fieldFree table marks v (digit roles 1) (m .c)
+      && (distinct (digit roles 100) (m .a) (digit roles 10) (m .b)
+      && (distinct (digit roles 100) (m .a) (digit roles 1) (m .c)
+      && distinct (digit roles 10) (m .b) (digit roles 1) (m .c)))))
+
+-- the nodes that they name
+abbrev pub threeParts : Node → ℕ → List ℕ
+threeParts m roles =
+    fieldParts (digit roles 100) (m .a) ++ (fieldParts (digit roles 10) (m .b) ++ fieldParts (digit roles 1) (m .c))
+
+-- the fields are free, and what they name is used afterwards
+pub record Used (table : List ℕ) (v : Visit) (m : Node) (roles : ℕ) (before after : List ℕ) : Type 0 where
+  pub free : fieldsFree table before v m roles ≡ true
+  pub used : after ≡ withBits before (threeParts m roles)
+
+-- of the planes: the nodes used, then the facts
+abbrev pub usedPlane : List ℕ → List ℕ
+usedPlane planes = take 8 planes
+
+abbrev pub factsPlane : List ℕ → List ℕ
+factsPlane planes = drop 8 planes
+
+pub record Fields (table : List ℕ) (v : Visit) (m : Node) (roles : ℕ) (before after : List ℕ) (r : Bool) : Type 0 where
+  pub answer : r ≡ fieldsFree table (usedPlane before) v m roles
+  pub taken : r ≡ true → Used table v m roles (usedPlane before) (usedPlane after)
+  pub same : r ≡ false → after ≡ before
+  pub facts : factsPlane after ≡ factsPlane before
+  pub size : length after ≡ 16

@@ -1,0 +1,6 @@
+-- What the contracts of this crate cite besides the rules.
+pub mod Least
+pub mod Exact
+pub mod Fields
+pub mod Facts
+pub mod Visited
