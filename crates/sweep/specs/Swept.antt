@@ -40,7 +40,7 @@ pub data Swept (count early : ℕ) (list : List ℕ) (best : ℕ) (marks : List 
   clean : early ≡ none → best ≡ misused count (repeated (replicate 8 0) count list) → marks ≡ withBits (replicate 8 0) list
       → Swept count early list best marks
 
--- and once a procedure is
+-- the least refusal and the marks once a procedure is swept: one that fails 6 or 10 marks nothing
 module _ (table : List ℕ) (p : ℕ) where
   unfoldable pub bodyBest : List ℕ → ℕ → ℕ
   bodyBest marks best =
