@@ -13,7 +13,7 @@ use Rattle.rules.specs.Table.{nodes, statementAt}
 use Rattle.rules.specs.WellFormed.{calledBelow, question12, wellFormed}
 use Rattle.table.specs.declared.Header.{Header}
 use Rattle.table.specs.Sized.{Sized}
-use Rattle.visit.specs.Fields.{factsPlane}
+use Rattle.visit.specs.Fields.{factsPlane, allPlanes}
 use Rattle.sweep.specs.Swept.{filledVerdict}
 
 -- the table passes 2 to 11
@@ -25,7 +25,7 @@ pub record Filled (table : List ℕ) (header : Header) : Type 0 where
 pub record FirstCall (table before after : List ℕ) (r : ℕ) : Type 0 where
   pub first : r ≡ firstFailing (λ n. calledBelow table n (statementAt table n)) (nodes table)
   pub kept : factsPlane after ≡ factsPlane before
-  pub size : length after ≡ 16
+  pub size : length after ≡ allPlanes
 
 -- the first of questions 12 to 17 that fails, and of 2 to 17; 13 to 17 are asked only of a table that is judged
 unfoldable pub callsAsked : Bool → List ℕ → Verdict

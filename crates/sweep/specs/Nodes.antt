@@ -11,7 +11,7 @@ use Rattle.table.specs.Uses.{Enclosed}
 use Rattle.visit.specs.declared.Visit.{Visit}
 use Rattle.visit.specs.Exact.{nodeBest}
 use Rattle.visit.specs.Facts.{ruleCode, FactsTo}
-use Rattle.visit.specs.Fields.{usedPlane, factsPlane}
+use Rattle.visit.specs.Fields.{usedPlane, factsPlane, allPlanes}
 use Rattle.visit.specs.Least.{none, leastBelow}
 use Rattle.sweep.specs.declared.Blocked.{Blocked}
 use Rattle.sweep.specs.declared.Reached.{Reached}
@@ -30,7 +30,7 @@ Fails table n planes = (best : ℕ) → best ≤ none → nodeBest table n (used
 pub record Going (table : List ℕ) (first : Visit) (end start : ℕ) (before after : List ℕ) (n rule : ℕ) : Type 0 where
   pub from : first .node ≤ n
   pub to : n ≤ end
-  pub size : length after ≡ 16
+  pub size : length after ≡ allPlanes
   pub low : rule ≤ none
   pub marks : (best : ℕ) → SweptTo table (first .node) best (usedPlane before) → SweptTo table n best (usedPlane after)
   pub enclosed : (k : ℕ) → first .node ≤ k → k < n → Enclosed table k (first .low) (first .limit)
@@ -44,7 +44,7 @@ pub record Quickly (table : List ℕ) (first : Visit) (end start : ℕ) (before 
 -- block by block. If every procedure had its block, every call names a procedure below its own.
 pub record InBlocks (table : List ℕ) (judged : Bool) (planes : List ℕ) (r : Blocked) : Type 0 where
   pub to : r .node ≤ nodes table
-  pub size : length planes ≡ 16
+  pub size : length planes ≡ allPlanes
   pub low : r .rule ≤ none
   pub marks : SweptTo table (r .node) none (usedPlane planes)
   pub judge : judged ≡ true → JudgedTo table (r .node) (r .rule) planes
@@ -52,7 +52,7 @@ pub record InBlocks (table : List ℕ) (judged : Bool) (planes : List ℕ) (r : 
 
 -- all nodes. The facts matter only where no earlier question fails.
 pub record AllNodes (table : List ℕ) (judged : Bool) (planes : List ℕ) (r : Found) : Type 0 where
-  pub size : length planes ≡ 16
+  pub size : length planes ≡ allPlanes
   pub marks : AfterNodes table (r .best) (usedPlane planes)
   pub judge : judged ≡ true → r .best ≡ none → JudgedTo table (nodes table) (r .rule) planes
   pub called : r .ordered ≡ true → question12 table ≡ Accepted

@@ -14,6 +14,7 @@ use Rattle.rules.specs.WellFormed.{question6, question7, question8, question9, 
 use Rattle.table.specs.Marks.{bitAt, withBit, withBits}
 use Rattle.table.specs.Uses.{repeated}
 use Rattle.visit.specs.Exact.{notedCode}
+use Rattle.visit.specs.Fields.{planeWords}
 use Rattle.visit.specs.Least.{none, code, failure, leastBelow, verdictOf}
 
 -- questions 6 to 11
@@ -37,7 +38,7 @@ misused count place = cond (ltb place count) (code 11 place) none
 -- refusal by an earlier question so far. Once there is one, the marks do not matter any more.
 pub data Swept (count early : ℕ) (list : List ℕ) (best : ℕ) (marks : List ℕ) : Type 0 where
   failed : best ≡ early → early < code 11 0 → Swept count early list best marks
-  clean : early ≡ none → best ≡ misused count (repeated (replicate 8 0) count list) → marks ≡ withBits (replicate 8 0) list
+  clean : early ≡ none → best ≡ misused count (repeated (replicate planeWords 0) count list) → marks ≡ withBits (replicate planeWords 0) list
       → Swept count early list best marks
 
 -- the least refusal and the marks once a procedure is swept: one that fails 6 or 10 marks nothing

@@ -8,7 +8,7 @@ ghost use Rattle.sweep.specs.Nodes.{JudgedTo};
 ghost use Rattle.sweep.specs.Swept.{bodyBest, bodyMarks, unusedBest, AfterNodes, AfterBodies, Uses};
 ghost use Rattle.table.specs.Sized.{Sized};
 ghost use Rattle.visit.specs.Facts.{ruleCode, flagCode, FactsTo};
-ghost use Rattle.visit.specs.Fields.{factsPlane};
+ghost use Rattle.visit.specs.Fields.{factsPlane, allPlanes, planeWords};
 ghost use Rattle.visit.specs.Least.{none, leastBelow};
 use table::Header;
 use table::fields::body_is_statement;
@@ -17,6 +17,8 @@ use table::marks::first_unmarked;
 use table::marks::marked;
 use table::words::body;
 use table::words::effect_flag;
+use visit::PLANE;
+use visit::PLANES;
 use visit::exact::note;
 use visit::least::worse;
 
@@ -25,7 +27,7 @@ const UNUSED: usize = 11 * 65536;
 
 // Questions 6 and 10 of a procedure, and 11 as far as its body was used before.
 fn sweep_body(table: &[u8], header: Header, marks: &mut [u32], best: usize, p: usize) -> usize
-    requires { ⌜ Sized (now table) header × (p < header .procedures) × (length (now marks) ≡ 8) ⌝ }
+    requires { ⌜ Sized (now table) header × (p < header .procedures) × (length (now marks) ≡ planeWords) ⌝ }
     ensures { λ r. ⌜ (r ≡ bodyBest (now (table .entry)) p (now (marks .entry)) best)
         × (now (marks .exit) ≡ bodyMarks (now (table .entry)) p (now (marks .entry))) ⌝ }
 {
@@ -39,8 +41,8 @@ fn sweep_body(table: &[u8], header: Header, marks: &mut [u32], best: usize, p: u
 }
 
 fn sweep_bodies(table: &[u8], header: Header, marks: &mut [u32], first: usize) -> usize
-    requires { ⌜ Sized (now table) header × (length (now marks) ≡ 8) × AfterNodes (now table) first (now marks) ⌝ }
-    ensures { λ r. ⌜ AfterBodies (now (table .entry)) r (now (marks .exit)) × (length (now (marks .exit)) ≡ 8) × (r ≤ first) ⌝ }
+    requires { ⌜ Sized (now table) header × (length (now marks) ≡ planeWords) × AfterNodes (now table) first (now marks) ⌝ }
+    ensures { λ r. ⌜ AfterBodies (now (table .entry)) r (now (marks .exit)) × (length (now (marks .exit)) ≡ planeWords) × (r ≤ first) ⌝ }
 {
     let count = header.procedures;
     let mut best = first;
@@ -54,7 +56,7 @@ fn sweep_bodies(table: &[u8], header: Header, marks: &mut [u32], first: usize) -
 
 // Question 11 of nodes that were never used, unless an earlier question fails.
 fn unused(marks: &[u32], count: usize, best: usize) -> usize
-    requires { ⌜ (length (now marks) ≡ 8) × (count ≤ 256) × (best ≤ none) ⌝ }
+    requires { ⌜ (length (now marks) ≡ planeWords) × (count ≤ 256) × (best ≤ none) ⌝ }
     ensures { λ r. ⌜ r ≡ unusedBest count (now (marks .entry)) best ⌝ }
 {
     if best < UNUSED {
@@ -69,7 +71,7 @@ fn unused(marks: &[u32], count: usize, best: usize) -> usize
 
 // The least refusal of 6 to 11 once the nodes are swept.
 pub(crate) fn sweep_uses(table: &[u8], header: Header, marks: &mut [u32], first: usize) -> usize
-    requires { ⌜ Sized (now table) header × (length (now marks) ≡ 8) × AfterNodes (now table) first (now marks) ⌝ }
+    requires { ⌜ Sized (now table) header × (length (now marks) ≡ planeWords) × AfterNodes (now table) first (now marks) ⌝ }
     ensures { λ r. ⌜ Uses (now (table .entry)) first r ⌝ }
 {
     let best = sweep_bodies(table, header, marks, first);
@@ -78,11 +80,11 @@ pub(crate) fn sweep_uses(table: &[u8], header: Header, marks: &mut [u32], first:
 
 // Question 17 of a procedure, by the fact of its body.
 fn flag_body(table: &[u8], header: Header, planes: &[u32], best: usize, p: usize) -> usize
-    requires { ⌜ Filled (now table) header × (p < header .procedures) × (length (now planes) ≡ 16) × (best ≤ none) ⌝ }
+    requires { ⌜ Filled (now table) header × (p < header .procedures) × (length (now planes) ≡ allPlanes) × (best ≤ none) ⌝ }
     requires { ⌜ FactsTo (now table) (nodes (now table)) (factsPlane (now planes)) ⌝ }
     ensures { λ r. ⌜ r ≡ min best (flagCode (now (table .entry)) p) ⌝ }
 {
-    if !marked(&planes[8..16], body(table, p)) {
+    if !marked(&planes[PLANE..PLANES], body(table, p)) {
         return best;
     }
     if effect_flag(table, p) {
@@ -93,7 +95,7 @@ fn flag_body(table: &[u8], header: Header, planes: &[u32], best: usize, p: usize
 
 // The least refusal of 13 to 17.
 pub(crate) fn unflagged(table: &[u8], header: Header, planes: &[u32], rule: usize) -> usize
-    requires { ⌜ Filled (now table) header × (length (now planes) ≡ 16) × JudgedTo (now table) (nodes (now table)) rule (now planes) ⌝ }
+    requires { ⌜ Filled (now table) header × (length (now planes) ≡ allPlanes) × JudgedTo (now table) (nodes (now table)) rule (now planes) ⌝ }
     ensures { λ r. ⌜ r ≡ min (leastBelow (ruleCode (now (table .entry))) (nodes (now (table .entry))))
         (leastBelow (flagCode (now (table .entry))) (procedures (now (table .entry)))) ⌝ }
 {

@@ -12,6 +12,7 @@ ghost use Rattle.sweep.specs.Asked.{Filled, FirstCall, callsAsked, asked
 ghost use Rattle.sweep.specs.Nodes.{JudgedTo};
 ghost use Rattle.sweep.specs.Swept.{filledVerdict};
 ghost use Rattle.table.specs.Sized.{Sized};
+ghost use Rattle.visit.specs.Fields.{allPlanes};
 use crate::bodies::sweep_uses;
 use crate::bodies::unflagged;
 use crate::nodes::sweep_nodes;
@@ -22,14 +23,16 @@ use table::marks::clear;
 use table::shape::refused;
 use table::shape::shape;
 use table::words::header;
+use visit::PLANE;
+use visit::PLANES;
 use visit::least::NONE;
 use visit::least::verdict;
 
 mod bodies; // bodies.rt: questions 6, 10 and 17, and 11 of nodes that are not used
 mod nodes; // nodes.rt: questions 7, 8, 9, 13 to 16 and 11 of nodes that are used twice
 
-// The planes: the nodes used, later those that wait in question 12; and the facts.
-pub const PLANE_WORDS: usize = 16;
+// The words of the planes; the first of them serves question 12 once the nodes are swept.
+pub const PLANE_WORDS: usize = PLANES;
 
 // How far a sweep got, and the least refusal of 13 to 16 on the way.
 pub struct Reached {
@@ -53,14 +56,14 @@ pub struct Found {
 
 // Question 12 of a table that passes 2 to 11: the walk only where the procedures do not lie in blocks.
 fn first_call(table: &[u8], header: Header, planes: &mut [u32], ordered: bool) -> usize
-    requires { ⌜ Filled (now table) header × (length (now planes) ≡ 16) × (ordered ≡ true → question12 (now table) ≡ Accepted) ⌝ }
+    requires { ⌜ Filled (now table) header × (length (now planes) ≡ allPlanes) × (ordered ≡ true → question12 (now table) ≡ Accepted) ⌝ }
     ensures { λ r. ⌜ FirstCall (now (table .entry)) (now (planes .entry)) (now (planes .exit)) r ⌝ }
 {
     if ordered {
         return header.nodes;
     }
-    clear(&mut planes[0..8]);
-    first_miscalled(table, header, &mut planes[0..8])
+    clear(&mut planes[0..PLANE]);
+    first_miscalled(table, header, &mut planes[0..PLANE])
 }
 
 // Questions 12 to 17 of a table that passes 2 to 11, the last five only if it is judged.
@@ -71,7 +74,7 @@ fn ask_calls(
     judged: bool,
     found: Found,
 ) -> Verdict
-    requires { ⌜ Filled (now table) header × (length (now planes) ≡ 16) × (found .ordered ≡ true → question12 (now table) ≡ Accepted) ⌝ }
+    requires { ⌜ Filled (now table) header × (length (now planes) ≡ allPlanes) × (found .ordered ≡ true → question12 (now table) ≡ Accepted) ⌝ }
     requires { ⌜ (judged ≡ true → JudgedTo (now table) (nodes (now table)) (found .rule) (now planes)) ⌝ }
     ensures { λ r. ⌜ r ≡ callsAsked judged (now (table .entry)) ⌝ }
 {
@@ -87,11 +90,11 @@ fn ask_calls(
 
 // Questions 6 to 17 of a table that passes 2 to 5.
 fn ask_contents(table: &[u8], header: Header, planes: &mut [u32], judged: bool) -> Verdict
-    requires { ⌜ Sized (now table) header × (now planes ≡ replicate 16 0) ⌝ }
+    requires { ⌜ Sized (now table) header × (now planes ≡ replicate allPlanes 0) ⌝ }
     ensures { λ r. ⌜ r ≡ (filledVerdict (now (table .entry)) then callsAsked judged (now (table .entry))) ⌝ }
 {
     let found = sweep_nodes(table, header, planes, judged);
-    let best = sweep_uses(table, header, &mut planes[0..8], found.best);
+    let best = sweep_uses(table, header, &mut planes[0..PLANE], found.best);
     if best < NONE {
         return verdict(best);
     }
@@ -100,7 +103,7 @@ fn ask_contents(table: &[u8], header: Header, planes: &mut [u32], judged: bool) 
 
 // Questions 2 to 17, the last five only if the table is judged, over planes that are zero.
 fn ask(table: &[u8], planes: &mut [u32], judged: bool) -> Verdict
-    requires { ⌜ now planes ≡ replicate 16 0 ⌝ }
+    requires { ⌜ now planes ≡ replicate allPlanes 0 ⌝ }
     ensures { λ r. ⌜ r ≡ asked judged (now (table .entry)) ⌝ }
 {
     let shaped = shape(table);
@@ -112,7 +115,7 @@ fn ask(table: &[u8], planes: &mut [u32], judged: bool) -> Verdict
 
 // Questions 2 to 12.
 pub fn well_formed(table: &[u8], planes: &mut [u32]) -> Verdict
-    requires { ⌜ now planes ≡ replicate 16 0 ⌝ }
+    requires { ⌜ now planes ≡ replicate allPlanes 0 ⌝ }
     ensures { λ r. ⌜ r ≡ wellFormed (now (table .entry)) ⌝ }
 {
     ask(table, planes, false)
@@ -120,7 +123,7 @@ pub fn well_formed(table: &[u8], planes: &mut [u32]) -> Verdict
 
 // Questions 2 to 17.
 pub fn accepted(table: &[u8], planes: &mut [u32]) -> Verdict
-    requires { ⌜ now planes ≡ replicate 16 0 ⌝ }
+    requires { ⌜ now planes ≡ replicate allPlanes 0 ⌝ }
     ensures { λ r. ⌜ r ≡ (wellFormed (now (table .entry)) then judged (now (table .entry))) ⌝ }
 {
     ask(table, planes, true)

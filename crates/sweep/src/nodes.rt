@@ -8,11 +8,13 @@ ghost use Rattle.rules.specs.Table.{nodes, body};
 ghost use Rattle.sweep.specs.Nodes.{Quickly, InBlocks, AllNodes};
 ghost use Rattle.table.specs.Sized.{Sized};
 ghost use Rattle.visit.specs.Least.{none};
+ghost use Rattle.visit.specs.Fields.{allPlanes};
 use crate::Blocked;
 use crate::Found;
 use crate::Reached;
 use table::Header;
 use table::words::body;
+use visit::PLANE;
 use visit::STUCK;
 use visit::Visit;
 use visit::exact::exact;
@@ -38,7 +40,7 @@ fn sweep_quickly(
     end: usize,
     start: usize,
 ) -> Reached
-    requires { ⌜ Sized (now table) (first .header) × (first .node ≤ end) × (end ≤ first .header .nodes) × (length (now planes) ≡ 16) × (start ≤ none) ⌝ }
+    requires { ⌜ Sized (now table) (first .header) × (first .node ≤ end) × (end ≤ first .header .nodes) × (length (now planes) ≡ allPlanes) × (start ≤ none) ⌝ }
     ensures { λ r. ⌜ Quickly (now (table .entry)) first end start (now (planes .entry)) (now (planes .exit)) r ⌝ }
 {
     let header = first.header;
@@ -79,7 +81,7 @@ fn block_end(table: &[u8], header: Header, p: usize) -> usize
 
 // Block by block, as long as each procedure's nodes stand together and call lower procedures only.
 fn sweep_blocks(table: &[u8], header: Header, planes: &mut [u32], judged: bool) -> Blocked
-    requires { ⌜ Sized (now table) header × (now planes ≡ replicate 16 0) ⌝ }
+    requires { ⌜ Sized (now table) header × (now planes ≡ replicate allPlanes 0) ⌝ }
     ensures { λ r. ⌜ InBlocks (now (table .entry)) judged (now (planes .exit)) r ⌝ }
 {
     let count = header.procedures;
@@ -145,7 +147,7 @@ fn sweep_rest(
     let mut reached = sweep_quickly(table, planes, first, count, blocked.rule);
     while reached.node < count {
         let n = reached.node;
-        best = exact(table, header, &mut planes[0..8], best, n);
+        best = exact(table, header, &mut planes[0..PLANE], best, n);
         let next = Visit {
             header: header,
             node: n + 1,
@@ -163,7 +165,7 @@ fn sweep_rest(
 }
 
 pub(crate) fn sweep_nodes(table: &[u8], header: Header, planes: &mut [u32], judged: bool) -> Found
-    requires { ⌜ Sized (now table) header × (now planes ≡ replicate 16 0) ⌝ }
+    requires { ⌜ Sized (now table) header × (now planes ≡ replicate allPlanes 0) ⌝ }
     ensures { λ r. ⌜ AllNodes (now (table .entry)) judged (now (planes .exit)) r ⌝ }
 {
     let blocked = sweep_blocks(table, header, planes, judged);

@@ -11,7 +11,7 @@ use Rattle.rules.specs.declared.Node.{Node}
 use Rattle.rules.specs.Table.{flagged, effectFlag, statementAt}
 use Rattle.table.specs.Marks.{bitAt, withBit}
 use Rattle.visit.specs.declared.Visit.{Visit}
-use Rattle.visit.specs.Fields.{usedPlane, factsPlane}
+use Rattle.visit.specs.Fields.{usedPlane, factsPlane, allPlanes, planeWords}
 use Rattle.visit.specs.Least.{none, code, failure}
 
 -- what the sweep keeps of a node for questions 13 to 17: an expression that is not single, or a statement with a global effect.
@@ -29,7 +29,7 @@ flagCode table p = failure 17 p (bodyFlagged table p)
 
 -- the plane of facts once the nodes below n are judged: one bit for each, and none from there on
 pub record FactsTo (table : List ℕ) (n : ℕ) (facts : List ℕ) : Type 0 where
-  pub size : length facts ≡ 8
+  pub size : length facts ≡ planeWords
   pub known : (k : ℕ) → k < n → bitAt facts k ≡ fact table k
   pub clear : (k : ℕ) → n ≤ k → k < 256 → bitAt facts k ≡ false
 
@@ -71,4 +71,4 @@ pub record Settled (table : List ℕ) (v : Visit) (m : Node) (used : Bool) (sour
       ≡ cond (used && (v .judged && sourced table (factsPlane before) m source)) (withBit (factsPlane before) (v .node))
       (factsPlane before)
   pub same : used ≡ false → after ≡ before
-  pub size : length after ≡ 16
+  pub size : length after ≡ allPlanes

@@ -11,7 +11,7 @@ use Rattle.table.specs.Uses.{Enclosed}
 use Rattle.visit.specs.declared.Visit.{Visit}
 use Rattle.visit.specs.Exact.{repeatedCode, nodeBest}
 use Rattle.visit.specs.Facts.{ruleCode, FactsTo}
-use Rattle.visit.specs.Fields.{usedPlane, factsPlane}
+use Rattle.visit.specs.Fields.{usedPlane, factsPlane, allPlanes}
 use Rattle.visit.specs.Least.{none}
 
 -- it passes 7 to 9, none of its parts was used, and all are afterwards
@@ -25,7 +25,7 @@ pub record Quick (table : List ℕ) (n : ℕ) (before after : List ℕ) : Type 0
 -- a visit that answers 0 is stuck: it changes nothing, and if it was put in no block, something fails at the node. Any other
 -- answers the refusal by the node's rule, if the node is judged.
 pub record Visited (table : List ℕ) (v : Visit) (before after : List ℕ) (r : ℕ) : Type 0 where
-  pub size : length after ≡ 16
+  pub size : length after ≡ allPlanes
   pub same : r ≡ 0 → after ≡ before
   pub stuck : r ≡ 0 → v .low ≡ 0 → v .limit ≡ procedures table → (best : ℕ) → best ≤ none
       → nodeBest table (v .node) (usedPlane before) best < none

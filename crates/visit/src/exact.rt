@@ -10,6 +10,7 @@ ghost use Rattle.visit.specs.Exact.{notedCode, repeatedCode, nodeBest, n
 ghost use Rattle.table.specs.Marks.{withBit, withBits};
 ghost use Rattle.table.specs.Roles.{isPart, fieldParts};
 ghost use Rattle.table.specs.Sized.{Sized};
+ghost use Rattle.visit.specs.Fields.{planeWords};
 use crate::least::worse;
 use table::Header;
 use table::fields::A;
@@ -26,7 +27,7 @@ use table::words::node_at;
 
 // Marks node n, and answers the least refusal then.
 pub fn note(marks: &mut [u32], best: usize, n: usize) -> usize
-    requires { ⌜ (n < 256) × (length (now marks) ≡ 8) ⌝ }
+    requires { ⌜ (n < 256) × (length (now marks) ≡ planeWords) ⌝ }
     ensures { λ r. ⌜ (r ≡ notedCode (now (marks .entry)) best n) × (now (marks .exit) ≡ withBit (now (marks .entry)) n) ⌝ }
 {
     if marked(marks, n) {
@@ -37,7 +38,7 @@ pub fn note(marks: &mut [u32], best: usize, n: usize) -> usize
 }
 
 fn note_field(marks: &mut [u32], best: usize, role: u16, value: usize) -> usize
-    requires { ⌜ (isPart role ≡ true → value < 256) × (length (now marks) ≡ 8) ⌝ }
+    requires { ⌜ (isPart role ≡ true → value < 256) × (length (now marks) ≡ planeWords) ⌝ }
     ensures { λ r. ⌜ (r ≡ repeatedCode (now (marks .entry)) best (fieldParts role value))
         × (now (marks .exit) ≡ withBits (now (marks .entry)) (fieldParts role value)) ⌝ }
 {
@@ -48,7 +49,7 @@ fn note_field(marks: &mut [u32], best: usize, role: u16, value: usize) -> usize
 }
 
 fn note_parts(table: &[u8], header: Header, marks: &mut [u32], best: usize, n: usize) -> usize
-    requires { ⌜ Sized (now table) header × (n < header .nodes) × (length (now marks) ≡ 8) × (nodeFits (now table) n ≡ true) ⌝ }
+    requires { ⌜ Sized (now table) header × (n < header .nodes) × (length (now marks) ≡ planeWords) × (nodeFits (now table) n ≡ true) ⌝ }
     ensures { λ r. ⌜ (r ≡ repeatedCode (now (marks .entry)) best (partsAt (now (table .entry)) n))
         × (now (marks .exit) ≡ withBits (now (marks .entry)) (partsAt (now (table .entry)) n)) ⌝ }
 {
@@ -59,7 +60,7 @@ fn note_parts(table: &[u8], header: Header, marks: &mut [u32], best: usize, n: u
 }
 
 pub fn exact(table: &[u8], header: Header, marks: &mut [u32], best: usize, n: usize) -> usize
-    requires { ⌜ Sized (now table) header × (n < header .nodes) × (length (now marks) ≡ 8) ⌝ }
+    requires { ⌜ Sized (now table) header × (n < header .nodes) × (length (now marks) ≡ planeWords) ⌝ }
     ensures { λ r. ⌜ (r ≡ nodeBest (now (table .entry)) n (now (marks .entry)) best)
         × (now (marks .exit) ≡ nodeMarks (now (table .entry)) n (now (marks .entry))) ⌝ }
 {

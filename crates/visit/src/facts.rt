@@ -7,7 +7,9 @@ ghost use lib.ListN.{length};
 ghost use Rattle.table.specs.Marks.{bitAt};
 ghost use Rattle.table.specs.Sized.{Sized};
 ghost use Rattle.visit.specs.Facts.{sourced, Settled, ruled};
-ghost use Rattle.visit.specs.Fields.{factsPlane};
+ghost use Rattle.visit.specs.Fields.{factsPlane, allPlanes};
+use crate::PLANE;
+use crate::PLANES;
 use crate::STUCK;
 use crate::Visit;
 use crate::least::NONE;
@@ -41,14 +43,14 @@ pub(crate) const OF_B_OR_C: u16 = 8;
 pub(crate) const UNRULED: usize = 0;
 
 fn fact(planes: &[u32], n: u32) -> bool
-    requires { ⌜ length (now planes) ≡ 16 ⌝ }
+    requires { ⌜ length (now planes) ≡ allPlanes ⌝ }
     ensures { λ r. ⌜ r ≡ bitAt (factsPlane (now (planes .entry))) (n % 256) ⌝ }
 {
-    marked(&planes[8..16], (n % 256) as usize)
+    marked(&planes[PLANE..PLANES], (n % 256) as usize)
 }
 
 fn either(planes: &[u32], a: u32, b: u32) -> bool
-    requires { ⌜ length (now planes) ≡ 16 ⌝ }
+    requires { ⌜ length (now planes) ≡ allPlanes ⌝ }
     ensures { λ r. ⌜ r ≡ (bitAt (factsPlane (now (planes .entry))) (a % 256) || bitAt (factsPlane (now (planes .entry))) (b % 256)) ⌝ }
 {
     if fact(planes, a) {
@@ -58,7 +60,7 @@ fn either(planes: &[u32], a: u32, b: u32) -> bool
 }
 
 fn fact_from(table: &[u8], planes: &[u32], visit: Visit, node: Node, source: u16) -> bool
-    requires { ⌜ Sized (now table) (visit .header) × (length (now planes) ≡ 16) × (source ≡ 4 → node .a < visit .header .procedures) ⌝ }
+    requires { ⌜ Sized (now table) (visit .header) × (length (now planes) ≡ allPlanes) × (source ≡ 4 → node .a < visit .header .procedures) ⌝ }
     ensures { λ r. ⌜ r ≡ sourced (now (table .entry)) (factsPlane (now (planes .entry))) node source ⌝ }
 {
     match source {
@@ -85,7 +87,7 @@ pub(crate) fn settled(
     question: usize,
     guard: u32,
 ) -> usize
-    requires { ⌜ Sized (now table) (visit .header) × (visit .node < visit .header .nodes) × (length (now planes) ≡ 16) ⌝ }
+    requires { ⌜ Sized (now table) (visit .header) × (visit .node < visit .header .nodes) × (length (now planes) ≡ allPlanes) ⌝ }
     requires { ⌜ (question < 17) × (used ≡ true → source ≡ 4 → node .a < visit .header .procedures) ⌝ }
     ensures { λ r. ⌜ Settled (now (table .entry)) visit node used source question guard (now (planes .entry)) (now (planes .exit)) r ⌝ }
 {
@@ -99,7 +101,7 @@ pub(crate) fn settled(
         return NONE;
     }
     let local = fact(planes, guard);
-    mark(&mut planes[8..16], visit.node);
+    mark(&mut planes[PLANE..PLANES], visit.node);
     ruled(local, question, visit.node)
 }
 

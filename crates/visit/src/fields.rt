@@ -6,7 +6,8 @@ ghost use lib.ListN.{length};
 ghost use Rattle.table.specs.Marks.{bitAt, withBits};
 ghost use Rattle.table.specs.Roles.{digit, isPart, fieldParts};
 ghost use Rattle.table.specs.Sized.{Sized};
-ghost use Rattle.visit.specs.Fields.{enclosed, fieldFree, distinct, fieldsFree, Used, Fields};
+ghost use Rattle.visit.specs.Fields.{enclosed, fieldFree, distinct, fieldsFree, Used, Fields, allPlanes, planeWords};
+use crate::PLANE;
 use crate::Visit;
 use rules::Node;
 use table::fields::A;
@@ -33,7 +34,7 @@ fn enclosed(visit: Visit, role: u16, value: usize) -> bool
 }
 
 fn field_free(table: &[u8], marks: &[u32], visit: Visit, role: u16, value: u32) -> bool
-    requires { ⌜ Sized (now table) (visit .header) × (visit .node < visit .header .nodes) × (length (now marks) ≡ 8) ⌝ }
+    requires { ⌜ Sized (now table) (visit .header) × (visit .node < visit .header .nodes) × (length (now marks) ≡ planeWords) ⌝ }
     ensures { λ r. ⌜ r ≡ fieldFree (now (table .entry)) (now (marks .entry)) visit role value ⌝ }
 {
     if !field_zero(role, value) {
@@ -64,7 +65,7 @@ fn distinct(r: u16, x: u32, s: u16, y: u32) -> bool
 }
 
 fn fields_free(table: &[u8], marks: &[u32], visit: Visit, node: Node, roles: u16) -> bool
-    requires { ⌜ Sized (now table) (visit .header) × (visit .node < visit .header .nodes) × (length (now marks) ≡ 8) ⌝ }
+    requires { ⌜ Sized (now table) (visit .header) × (visit .node < visit .header .nodes) × (length (now marks) ≡ planeWords) ⌝ }
     ensures { λ r. ⌜ r ≡ fieldsFree (now (table .entry)) (now (marks .entry)) visit node roles ⌝ }
 {
     if !field_free(table, marks, visit, digit(roles, A), node.a) {
@@ -86,7 +87,7 @@ fn fields_free(table: &[u8], marks: &[u32], visit: Visit, node: Node, roles: u16
 }
 
 fn take(marks: &mut [u32], role: u16, value: usize)
-    requires { ⌜ (isPart role ≡ true → (value < 256) × (bitAt (now marks) value ≡ false)) × (length (now marks) ≡ 8) ⌝ }
+    requires { ⌜ (isPart role ≡ true → (value < 256) × (bitAt (now marks) value ≡ false)) × (length (now marks) ≡ planeWords) ⌝ }
     ensures { λ _. ⌜ now (marks .exit) ≡ withBits (now (marks .entry)) (fieldParts role value) ⌝ }
 {
     if is_part(role) {
@@ -95,7 +96,7 @@ fn take(marks: &mut [u32], role: u16, value: usize)
 }
 
 fn take_fields(table: &[u8], marks: &mut [u32], visit: Visit, node: Node, roles: u16) -> bool
-    requires { ⌜ Sized (now table) (visit .header) × (visit .node < visit .header .nodes) × (length (now marks) ≡ 8) ⌝ }
+    requires { ⌜ Sized (now table) (visit .header) × (visit .node < visit .header .nodes) × (length (now marks) ≡ planeWords) ⌝ }
     ensures { λ r. ⌜ r ≡ fieldsFree (now (table .entry)) (now (marks .entry)) visit node roles ⌝ }
     ensures { λ r. ⌜ (r ≡ true → Used (now (table .entry)) visit node roles (now (marks .entry)) (now (marks .exit))) ⌝ }
     ensures { λ r. ⌜ (r ≡ false → now (marks .exit) ≡ now (marks .entry)) ⌝ }
@@ -111,8 +112,8 @@ fn take_fields(table: &[u8], marks: &mut [u32], visit: Visit, node: Node, roles:
 
 // The plane of the nodes used is the first of the planes.
 pub(crate) fn fields(table: &[u8], planes: &mut [u32], visit: Visit, node: Node, roles: u16) -> bool
-    requires { ⌜ Sized (now table) (visit .header) × (visit .node < visit .header .nodes) × (length (now planes) ≡ 16) ⌝ }
+    requires { ⌜ Sized (now table) (visit .header) × (visit .node < visit .header .nodes) × (length (now planes) ≡ allPlanes) ⌝ }
     ensures { λ r. ⌜ Fields (now (table .entry)) visit node roles (now (planes .entry)) (now (planes .exit)) r ⌝ }
 {
-    take_fields(table, &mut planes[0..8], visit, node, roles)
+    take_fields(table, &mut planes[0..PLANE], visit, node, roles)
 }

@@ -17,5 +17,10 @@ pub struct Visit {
     pub judged: bool,
 }
 
+// The words of a plane, a bit for each of 256 nodes, and of the planes: the nodes used, and the facts.
+pub const PLANE: usize = 8;
+
+pub const PLANES: usize = 2 * PLANE;
+
 // The answer of a visit that could not be made; any other is the least refusal by the node's rule.
 pub const STUCK: usize = 0;

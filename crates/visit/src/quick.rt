@@ -4,6 +4,7 @@ ghost use Prim.Native.Nat.{_<_};
 ghost use lib.ListN.{length};
 ghost use Rattle.table.specs.Sized.{Sized};
 ghost use Rattle.visit.specs.Visited.{Visited};
+ghost use Rattle.visit.specs.Fields.{allPlanes};
 use crate::STUCK;
 use crate::Visit;
 use crate::facts::ALWAYS;
@@ -24,7 +25,7 @@ use table::words::node_at;
 // The refusal by the node's rule, once its parts are used and its fact is noted; STUCK, and nothing changed, where a field does
 // not pass.
 pub fn quick(table: &[u8], planes: &mut [u32], visit: Visit) -> usize
-    requires { ⌜ Sized (now table) (visit .header) × (visit .node < visit .header .nodes) × (length (now planes) ≡ 16) ⌝ }
+    requires { ⌜ Sized (now table) (visit .header) × (visit .node < visit .header .nodes) × (length (now planes) ≡ allPlanes) ⌝ }
     ensures { λ r. ⌜ Visited (now (table .entry)) visit (now (planes .entry)) (now (planes .exit)) r ⌝ }
 {
     let header = visit.header;
