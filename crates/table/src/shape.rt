@@ -3,6 +3,7 @@ ghost use mathlib.Core.Bool.{_&&_};
 ghost use mathlib.Core.Path.{_≡_};
 ghost use Prim.Native.Nat.{_-_, _%_, _^_, _≤_};
 ghost use lib.Dec.{leb, eqb};
+ghost use Rattle.rules.specs.WellFormed.{mostTableBytes};
 ghost use Rattle.rules.specs.Answers.{refused};
 ghost use Rattle.table.specs.Sized.{headerTest, shapeVerdict};
 use crate::Header;
@@ -10,6 +11,7 @@ use crate::words::header;
 use crate::words::word;
 use rules::Refusal;
 use rules::Verdict;
+use rules::layout::MOST_TABLE_BYTES;
 
 pub fn refused(number: u32, place: u32) -> Verdict
     ensures { λ r. ⌜ r ≡ refused number place ⌝ }
@@ -25,12 +27,12 @@ pub fn between(low: usize, x: usize, high: usize) -> bool
 
 // Question 2.
 fn length_fits(bytes: usize) -> bool
-    ensures { λ r. ⌜ r ≡ (eqb (bytes % 4) 0 && leb 16 bytes && leb bytes 1096) ⌝ }
+    ensures { λ r. ⌜ r ≡ (eqb (bytes % 4) 0 && leb 16 bytes && leb bytes mostTableBytes) ⌝ }
 {
     if bytes % 4 != 0 {
         return false;
     }
-    between(16, bytes, 1096)
+    between(16, bytes, MOST_TABLE_BYTES)
 }
 
 // Question 3, of word 0 and the counts that it packs.
