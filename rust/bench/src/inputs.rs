@@ -7,8 +7,8 @@ const OWN: u32 = 0;
 const SINGLE: u32 = 1;
 pub const VARIABLES: usize = 2;
 
-/// An accepted table with this many nodes and procedures. Every procedure calls the one below it.
-/// The main one repeats its body for ever if it has the nodes for that.
+/// An accepted table with this many nodes and procedures. A procedure that has one node left over
+/// calls the one below it; the main one repeats its body for ever if it has the nodes for that.
 pub fn table(nodes: usize, procedures: usize) -> Builder {
     let mut table = Builder::new(VARIABLES as u32, &[SINGLE]);
     for number in 1..=procedures {
