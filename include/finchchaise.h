@@ -96,7 +96,7 @@ static inline uint32_t fc_number(uint64_t answer) { return (uint32_t)(answer >> 
 static inline uint32_t fc_place(uint64_t answer) { return (uint32_t)answer; }
 
 /*
- * The checker: 0 if the table is accepted, else the refusal (numbers 1 to 17).
+ * The checker: 0 if the table is accepted, else the refusal (numbers 1 to 17 and 26).
  *
  * scratch needs FC_SCRATCH_WORDS; what they hold before the call plays no part. After any answer but
  * number 1 the first so many are 0. Later words, and all after number 1, are left as they were.
@@ -105,8 +105,8 @@ uint64_t fc_check(const uint8_t *table, size_t table_length, uint32_t *scratch,
                   size_t scratch_length);
 
 /*
- * Starts a team: 0 if it was started, else the refusal (numbers 2 to 12 and 18 to 21). It asks that
- * the table is well formed, and not that the checker accepts it.
+ * Starts a team: 0 if it was started, else the refusal (numbers 2 to 12, 18 to 21 and 26). It asks
+ * that the table is well formed, and not that the checker accepts it.
  *
  * processes is 1 to FC_MOST_PROCESSES; start, state and roll have exactly the lengths given above. A taken start
  * writes every word of state and roll, a refused one none.
@@ -116,7 +116,7 @@ uint64_t fc_start(const uint8_t *table, size_t table_length, uint32_t processes,
                   uint32_t *roll, size_t roll_length);
 
 /*
- * One step of one process, counted from 0. Numbers of a refusal: 2 to 12 and 20 to 24.
+ * One step of one process, counted from 0. Numbers of a refusal: 2 to 12, 20 to 24 and 26.
  *
  * table, state and roll are those of the start, with nothing written to them since but by fc_step.
  * The number of processes is roll_length / FC_ROLL_WORDS. A refused step writes no word, and neither does one

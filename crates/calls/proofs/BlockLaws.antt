@@ -10,7 +10,7 @@ use native.Mathlib.Omega.{arith}
 use borrow.Author.Tests.{lt-ltb}
 use Rattle.rules.specs.declared.Verdict.the-variants.{Accepted}
 use Rattle.rules.specs.Table.{procedures, nodes, body, statementAt}
-use Rattle.rules.specs.Table.{Statement, nothing, assign, sequence, branch, loop, call, latch, collective}
+use Rattle.rules.specs.Table.{Statement, nothing, assign, sequence, branch, loop, call, latch, collective, leave}
 use Rattle.rules.specs.WellFormed.{inTree, calledBelow, question12}
 use Rattle.rules.proofs.AnswerLaws.{each-accepted}
 use Rattle.rules.proofs.ChoiceLaws.{bool-cases, all-true}
@@ -56,6 +56,7 @@ calls-so p (loop a b) h = refl
 calls-so p (call q) h = lt-ltb q p (h q refl)
 calls-so p (latch a b) h = refl
 calls-so p (collective k) h = refl
+calls-so p leave h = refl
 
 own : (table : List ℕ) (q k : ℕ) → Block table q → ownCalls table q k ≡ true
 unfolding ownCalls

@@ -9,7 +9,7 @@ use borrow.Author.Count.{below-more}
 use borrow.Author.Tests.{eqb-false}
 use Rattle.rules.specs.Choice.{firstFailing, allBelow}
 use Rattle.rules.specs.Table.{procedures, nodes, body, statementAt}
-use Rattle.rules.specs.Table.{Statement, nothing, assign, sequence, branch, loop, call, latch, collective}
+use Rattle.rules.specs.Table.{Statement, nothing, assign, sequence, branch, loop, call, latch, collective, leave}
 use Rattle.rules.specs.WellFormed.{inTree, calledBelow}
 use Rattle.rules.proofs.ChoiceLaws.{bool-cases, first-none, first-le, first-fails, all-true, all-false, all-at}
 use Rattle.calls.specs.Walk.{callsBelow, ownCalls}
@@ -47,6 +47,7 @@ module _ (table : List ℕ) where
   by-statement n (call q) = refl
   by-statement n (latch a b) = no-call n
   by-statement n (collective k) = no-call n
+  by-statement n leave = no-call n
 
   pub call-law : (n : ℕ) → calledBelow table n (statementAt table n) ≡ allBelow (λ p. ownCalls table p n) (procedures table)
   unfolding ownCalls

@@ -3,7 +3,7 @@ use mathlib.Core.Bool.{Bool, true, false, _&&_}
 use mathlib.Core.List.{List, [], _∷_}
 use mathlib.Core.Logic.{⊎-elim}
 use mathlib.Core.Path.{_≡_, refl, sym, _∙_}
-use Prim.Native.Nat.{ℕ, zero, suc, _-_, _≤_}
+use Prim.Native.Nat.{ℕ, _≤_}
 use native.Mathlib.Decide.{decLt}
 use native.Mathlib.Omega.{arith}
 use lib.Dec.{leb, ltb}
@@ -11,13 +11,14 @@ use borrow.Author.Tests.{leb-true, le-leb}
 use Rattle.rules.specs.declared.Node.{Node}
 use Rattle.rules.specs.Table.{variables, nodeAt, statementOf, expressionAt, statementAt}
 use Rattle.rules.specs.Table.{Expression, constant, variable, ownNumber, processCount, door, slot, operation}
-use Rattle.rules.specs.Table.{Statement, nothing, assign, sequence, branch, loop, call, latch, collective}
+use Rattle.rules.specs.Table.{Statement, nothing, assign, sequence, branch, loop, call, latch, collective, leave}
 use Rattle.rules.specs.Table.{Collective, barrier, broadcast, exchange}
 use Rattle.rules.specs.WellFormed.{isExpression, expressionPart, statementPart, partsAt, occurrences}
 use Rattle.rules.specs.WellFormed.{expressionFits, collectiveFits, statementFits, nodeFits}
 use Rattle.rules.specs.WellFormed.{expressionParts, collectiveParts, statementParts}
 use Rattle.rules.proofs.AnswerLaws.{both-left, both-right}
 use Rattle.rules.proofs.ChoiceLaws.{bool-cases}
+use Rattle.rules.proofs.KindLaws.{by-kind}
 use Rattle.rules.proofs.ValueLaws.{expression-part-sort}
 use Rattle.table.proofs.TestLaws.{never}
 use Rattle.table.proofs.UseLaws.{occurrences-append}
@@ -39,6 +40,7 @@ inner-part k (loop a b) h = one-more k a (b ∷ []) h
 inner-part k (call q) h = h
 inner-part k (latch a b) h = nowhere k h
 inner-part k (collective m) h = nowhere k h
+inner-part k leave h = nowhere k h
 
 pub inner-in : (table : List ℕ) (n k : ℕ) → In k (innerStatements (statementAt table n)) → In k (partsAt table n)
 unfolding partsAt
@@ -99,6 +101,7 @@ module _ (table : List ℕ) (n k : ℕ) (s : mayCall table k ≡ true) where
   part-inner (latch a b) fits h =
       past b [] (both-right (E a) (E b) fits) (past a (b ∷ []) (both-left (E a) (E b) fits) h)
   part-inner (collective m) fits h = no-meeting m fits h
+  part-inner leave fits h = h
 
   pub in-inner : nodeFits table n ≡ true → In k (partsAt table n) → In k (innerStatements (statementAt table n))
   unfolding nodeFits partsAt
@@ -145,22 +148,12 @@ abbrev Quiet : Statement → Type 0
 Quiet s = (innerStatements s ≡ []) × ((p : ℕ) → callsBelow p s ≡ true)
 
 module _ (m : Node) (h18 : m .kind ≡ 18 → ⊥) (h19 : m .kind ≡ 19 → ⊥) (h20 : m .kind ≡ 20 → ⊥) (h21 : m .kind ≡ 21 → ⊥) where
-  quiet-at : (i : ℕ) → m .kind - 16 ≡ i → Quiet (statementOf m)
-  unfolding statementOf innerStatements callsBelow
-  quiet-at zero e = rw e (refl, λ p. refl)
-  quiet-at (suc zero) e = rw e (refl, λ p. refl)
-  quiet-at (suc (suc zero)) e = absurd (h18 (omega arith))
-  quiet-at (suc (suc (suc zero))) e = absurd (h19 (omega arith))
-  quiet-at (suc (suc (suc (suc zero)))) e = absurd (h20 (omega arith))
-  quiet-at (suc (suc (suc (suc (suc zero))))) e = absurd (h21 (omega arith))
-  quiet-at (suc (suc (suc (suc (suc (suc zero)))))) e = rw e (refl, λ p. refl)
-  quiet-at (suc (suc (suc (suc (suc (suc (suc zero))))))) e = rw e (refl, λ p. refl)
-  quiet-at (suc (suc (suc (suc (suc (suc (suc (suc zero)))))))) e = rw e (refl, λ p. refl)
-  quiet-at (suc (suc (suc (suc (suc (suc (suc (suc (suc zero))))))))) e = rw e (refl, λ p. refl)
-  quiet-at (suc (suc (suc (suc (suc (suc (suc (suc (suc (suc i)))))))))) e = rw e (refl, λ p. refl)
-
   pub quiet : Quiet (statementOf m)
-  quiet = quiet-at (m .kind - 16) refl
+  unfolding innerStatements callsBelow
+  quiet =
+      let silent : Quiet nothing = (refl, λ p. refl) in
+      by-kind Quiet m (λ e. silent) (λ e. absurd (h18 e)) (λ e. absurd (h19 e)) (λ e. absurd (h20 e)) (λ e. absurd (h21 e))
+      (λ e. silent) (λ e. silent) (λ e. silent) (λ e. silent) (λ e. silent) silent
 
 -- a node that holds no call
 module _ (table : List ℕ) (n : ℕ) (none : mayCall table n ≡ false) where

@@ -5,7 +5,7 @@ use mathlib.Core.Path.{_≡_}
 use Prim.Native.Nat.{ℕ, suc, _+_, _/_, _≤_, _<_}
 use lib.Dec.{leb, ltb}
 use lib.ListN.{length, getD, replicate}
-use Rattle.rules.specs.Table.{Statement, nothing, assign, sequence, branch, loop, call, latch, collective}
+use Rattle.rules.specs.Table.{Statement, nothing, assign, sequence, branch, loop, call, latch, collective, leave}
 use Rattle.rules.specs.Table.{body, nodeAt, statementAt}
 use Rattle.rules.specs.WellFormed.{inTree}
 use Rattle.table.specs.Marks.{bitAt}
@@ -20,6 +20,7 @@ innerStatements (loop a b) = b ∷ []
 innerStatements (call q) = []
 innerStatements (latch a b) = []
 innerStatements (collective k) = []
+innerStatements leave = []
 
 -- a node may hold a call: it is a sequence, a branch, a loop or a call
 unfoldable pub mayCall : List ℕ → ℕ → Bool
@@ -44,6 +45,7 @@ callsBelow p (loop a b) = true
 callsBelow p (call q) = ltb q p
 callsBelow p (latch a b) = true
 callsBelow p (collective k) = true
+callsBelow p leave = true
 
 -- question 12 of node n as far as procedure p goes
 unfoldable pub ownCalls : List ℕ → ℕ → ℕ → Bool

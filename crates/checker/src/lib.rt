@@ -1,4 +1,4 @@
-// The checker: question 1, then 2 to 17 in one sweep over lent scratch.
+// The checker: question 1, then 2 to 12, 26 and 13 to 17 in one sweep over lent scratch.
 ghost use mathlib.Core.Path.{_≡_};
 ghost use lib.ListN.{length, replicate};
 ghost use Rattle.rules.specs.Acceptance.{scratchWords, judged, checked, checkedScratch};
@@ -11,7 +11,7 @@ use sweep::accepted;
 use table::marks::clear;
 use table::shape::refused;
 
-// Questions 2 to 17. The first words are the planes of the sweep.
+// Questions 2 to 12, 26 and 13 to 17. The first words are the planes of the sweep.
 fn answer_in(table: &[u8], words: &mut [u32]) -> Verdict
     requires { ⌜ length (now words) ≡ scratchWords ⌝ }
     ensures { λ r. ⌜ (r ≡ (wellFormed (now (table .entry)) then judged (now (table .entry))))

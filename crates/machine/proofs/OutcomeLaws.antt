@@ -2,7 +2,7 @@
 use mathlib.Core.Bool.{true, false}
 use mathlib.Core.List.{List}
 use mathlib.Core.Path.{_≡_, refl, sym, _∙_, ap}
-use Prim.Native.Nat.{ℕ, _≤_, _<_}
+use Prim.Native.Nat.{ℕ}
 use borrow.Author.Tests.{eq-eqb, ne-eqb}
 use Rattle.rules.specs.declared.Event.the-variants.{Moved, Finished, Arrived, Completed, Waiting, Ended}
 use Rattle.rules.specs.declared.Stepped.the-variants.{Taken}
@@ -13,10 +13,11 @@ use Rattle.rules.specs.Arrivals.{running, waiting, statusAt, endedRecord, withA
 use Rattle.rules.specs.Collective.{arrivalOf, completedState, releasedRoll}
 use Rattle.rules.specs.Process.{processAt, withProcess, environment, depth, top, advanced}
 use Rattle.rules.specs.Step.{moved, completed, arrivedAt, stepRunning, stepTaken}
-use Rattle.rules.specs.Table.{lastStatement, Statement, Collective, nodeAt, statementAt, statementOf, onCollective}
+use Rattle.rules.specs.Table.{Statement, Collective, nodeAt, statementAt, statementOf, onCollective}
 use Rattle.meeting.specs.Meeting.{collectiveOf}
 use Rattle.machine.specs.Outcomes.{Gives}
-use Rattle.rules.proofs.KindLaws.{alone-of}
+use Rattle.process.specs.Given.{isCollective}
+use Rattle.process.proofs.AloneLaws.{alone-statement}
 use Rattle.meeting.proofs.CollectiveLaws.{collective-of}
 
 module _ (state roll : List ℕ) (count p : ℕ) (words : List ℕ) where
@@ -61,33 +62,33 @@ module _ (state roll : List ℕ) (count node : ℕ) (meeting : Collective) where
 
 -- what is said of a statement that is a collective, and of one that is not
 module _ {A : Type 0} (s : Statement) (m : Node) (e : s ≡ statementOf m) (meet : Collective → A) (other : A) where
-  on-alone : m .kind < 23 → onCollective s meet other ≡ other
-  on-alone l = ap (λ x. onCollective x meet other) e ∙ alone-of m meet other l
+  on-alone : isCollective (m .kind) ≡ false → onCollective s meet other ≡ other
+  on-alone f = ap (λ x. onCollective x meet other) e ∙ alone-statement m f meet other
 
-  on-collective : 23 ≤ m .kind → m .kind ≤ lastStatement → onCollective s meet other ≡ meet (collectiveOf m)
-  on-collective h k = ap (λ x. onCollective x meet other) (e ∙ collective-of m h k)
+  on-collective : isCollective (m .kind) ≡ true → onCollective s meet other ≡ meet (collectiveOf m)
+  on-collective t = ap (λ x. onCollective x meet other) (e ∙ collective-of m t)
 
 module _ (table state roll : List ℕ) (count p : ℕ) (m : Node) (here : m ≡ nodeAt table (top (processAt state p))) where
   is-top : statementAt table (top (processAt state p)) ≡ statementOf m
   unfolding statementAt
   is-top = ap statementOf (sym here)
 
-  pub run-alone : m .kind < 23
+  pub run-alone : isCollective (m .kind) ≡ false
       → stepRunning table state roll count p
       ≡ moved state roll count p
       (advanced table (environment (processAt state p) p count) (processAt state p)
       (statementAt table (top (processAt state p))))
   unfolding stepRunning
-  run-alone l = on-alone (statementAt table (top (processAt state p))) m is-top _ _ l
+  run-alone f = on-alone (statementAt table (top (processAt state p))) m is-top _ _ f
 
-  pub run-meets : 23 ≤ m .kind → m .kind ≤ lastStatement
+  pub run-meets : isCollective (m .kind) ≡ true
       → stepRunning table state roll count p
       ≡ arrivedAt state
       (withArrival roll p
       (arrivalOf table (environment (processAt state p) p count) (top (processAt state p)) (collectiveOf m)))
       count (top (processAt state p)) (collectiveOf m)
   unfolding stepRunning
-  run-meets h k = on-collective (statementAt table (top (processAt state p))) m is-top _ _ h k
+  run-meets t = on-collective (statementAt table (top (processAt state p))) m is-top _ _ t
 
 module _ (table state roll : List ℕ) (count p : ℕ) where
   pub taken-run : statusAt roll p ≡ running → stepTaken table state roll count p ≡ stepRunning table state roll count p

@@ -2,7 +2,7 @@
 use mathlib.Core.Bool.{true, false}
 use mathlib.Core.List.{List}
 use mathlib.Core.Path.{_≡_, sym, _∙_}
-use Prim.Native.Nat.{ℕ, _≤_, _<_}
+use Prim.Native.Nat.{ℕ, _<_}
 use native.Mathlib.Decide.{decLt, ℕ-discrete}
 use native.Mathlib.Omega.{arith}
 use borrow.Author.Tests.{eq-eqb}
@@ -16,8 +16,7 @@ use Rattle.rules.specs.WellFormed.{isStatement}
 use Rattle.rules.proofs.ArrivalLaws.{with-arrival-length, with-arrival-other}
 use Rattle.rules.proofs.StatusLaws.{one-node-waits}
 use Rattle.table.specs.declared.Header.{Header}
-use Rattle.process.specs.Given.{Stacked, Topped, Turn}
-use Rattle.process.proofs.StatementLaws.{top-to}
+use Rattle.process.specs.Given.{Stacked, isCollective, Topped, Turn}
 use Rattle.meeting.specs.Meeting.{Meeting}
 use Rattle.meeting.proofs.CollectiveLaws.{broadcast-fits}
 use Rattle.questions.proofs.FittingLaws.{fits-stacked, run-stacked, run-statement, run-topped}
@@ -49,9 +48,9 @@ module _ {table : List ℕ} {header : Header} {state roll : List ℕ} {count p :
             absurd (omega arith)
       ]
 
-  pub ready-turn : {m : Node} → m ≡ nodeAt table (top (processAt state p)) → m .kind < 23
+  pub ready-turn : {m : Node} → m ≡ nodeAt table (top (processAt state p)) → isCollective (m .kind) ≡ false
       → Turn table header (processAt state p) p count m
-  ready-turn e l = record { topped = ready-topped e; alone = l; place = ready-place }
+  ready-turn e f = record { topped = ready-topped e; alone = f; place = ready-place }
 
   -- where the arrival of process p is the last, every process holds an entry
   module _ (arrival : Arrival) (together : allAtOneNode (withArrival roll p arrival) count ≡ true) where
@@ -68,14 +67,13 @@ module _ {table : List ℕ} {header : Header} {state roll : List ℕ} {count p :
               (λ e. let w : statusAt roll q ≡ 1 = others-wait q l other in omega arith)
         ]
 
-    pub meeting-of : {m : Node} → m ≡ nodeAt table (top (processAt state p)) → 23 ≤ m .kind
+    pub meeting-of : {m : Node} → m ≡ nodeAt table (top (processAt state p)) → isCollective (m .kind) ≡ true
         → Meeting (withArrival roll p arrival) count m
     meeting-of e h =
         record {
           rolled = with-arrival-length roll p arrival ∙ r .team .rolled;
           some = r .team .some;
           few = r .team .few;
-          from = h;
-          to = top-to (ready-topped e);
+          meets = h;
           stored = λ k. broadcast-fits (ready-topped e) k .0;
         }

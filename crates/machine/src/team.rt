@@ -48,7 +48,7 @@ fn start_formed(
     }
 }
 
-// Questions 2 to 12 and 18 to 21, then the words and the records of every process.
+// Questions 2 to 12, 26 and 18 to 21, then the words and the records of every process.
 pub fn start(
     table: &[u8],
     processes: u32,
@@ -96,7 +96,7 @@ fn step_formed(table: &[u8], state: &mut [u32], roll: &mut [u32], process: u32) 
     }
 }
 
-// Questions 2 to 12, 21, 20 and 22 to 24, then one step of a process.
+// Questions 2 to 12, 26, 21, 20 and 22 to 24, then one step of a process.
 pub fn step(table: &[u8], state: &mut [u32], roll: &mut [u32], process: u32) -> Stepped
     ensures { λ r. ⌜ Gives (stepped (now (table .entry)) (now (state .entry)) (now (roll .entry)) process)
         r (now (state .exit)) (now (roll .exit)) ⌝ }

@@ -1,13 +1,14 @@
 // A step (the paper's turn) that is taken: what it does to state and roll, and what it answers.
+ghost use mathlib.Core.Bool.{true};
 ghost use mathlib.Core.Path.{_≡_};
-ghost use Prim.Native.Nat.{_+_, _*_, _<_, _≤_};
+ghost use Prim.Native.Nat.{_+_, _*_, _<_};
 ghost use lib.ListN.{length};
 ghost use Rattle.rules.specs.Arrivals.{running, statusAt, withArrival};
 ghost use Rattle.rules.specs.Collective.{arrivalOf};
 ghost use Rattle.rules.specs.Process.{processWords, processAt, withProcess, environment, top, advanced};
 ghost use Rattle.rules.specs.Step.{moved, arrivedAt, stepRunning, stepTaken};
 ghost use Rattle.rules.specs.Table.{statementAt};
-ghost use Rattle.process.specs.Given.{Turn, Topped};
+ghost use Rattle.process.specs.Given.{isCollective, Turn, Topped};
 ghost use Rattle.meeting.specs.Meeting.{collectiveOf};
 ghost use Rattle.questions.specs.Asked.{Team};
 ghost use Rattle.machine.specs.Outcomes.{Ready, Gives};
@@ -20,6 +21,7 @@ use meeting::collective::arrival_of;
 use meeting::collective::complete;
 use meeting::collective::release;
 use process::process::advance;
+use process::process::is_collective;
 use process::process::process_at;
 use process::process::top;
 use rules::Answer;
@@ -88,7 +90,7 @@ fn arrive_in(
     node: Node,
 )
     requires { ⌜ Team (now table) header (now state) (now roll) count × (p < count) × (statusAt (now roll) p ≡ running)
-        × Topped (now table) header (processAt (now state) p) count node × (23 ≤ node .kind) ⌝ }
+        × Topped (now table) header (processAt (now state) p) count node × (isCollective (node .kind) ≡ true) ⌝ }
     ensures { λ _. ⌜ now (roll .exit) ≡ withArrival (now (roll .entry)) p
         (arrivalOf (now (table .entry)) (environment (processAt (now (state .entry)) p) p count)
         (top (processAt (now (state .entry)) p)) (collectiveOf node)) ⌝ }
@@ -109,7 +111,7 @@ fn meet(
     node: Node,
 ) -> Stepped
     requires { ⌜ Ready (now table) header (now state) (now roll) count p × (statusAt (now roll) p ≡ running)
-        × Topped (now table) header (processAt (now state) p) count node × (23 ≤ node .kind) ⌝ }
+        × Topped (now table) header (processAt (now state) p) count node × (isCollective (node .kind) ≡ true) ⌝ }
     ensures { λ r. ⌜ Gives
         (arrivedAt (now (state .entry))
         (withArrival (now (roll .entry)) p
@@ -152,7 +154,7 @@ fn run(
 {
     let n = top(process_at(state, p));
     let node = node_at(table, header, n as usize);
-    if node.kind < 23 {
+    if !is_collective(node.kind) {
         return move_on(table, header, state, roll, count, p, node);
     }
     meet(table, header, state, roll, count, p, node)

@@ -3,20 +3,21 @@ use mathlib.Core.Bool.{true, false}
 use mathlib.Core.List.{List}
 use mathlib.Core.Logic.{⊎-elim}
 use mathlib.Core.Path.{_≡_}
-use Prim.Native.Nat.{ℕ, _≤_, _<_}
+use Prim.Native.Nat.{ℕ, _<_}
 use native.Mathlib.Decide.{decLt}
 use native.Mathlib.Omega.{arith}
 use lib.Dec.{eqb}
 use borrow.Author.Tests.{eqb-true}
 use Rattle.rules.specs.declared.Node.{Node}
 use Rattle.rules.specs.Process.{variablePlaces, top}
-use Rattle.rules.specs.Table.{lastStatement, statementOf, collective, barrier, broadcast, exchange}
+use Rattle.rules.specs.Table.{statementOf, collective, barrier, broadcast, exchange}
 use Rattle.rules.proofs.ChoiceLaws.{bool-cases}
 use Rattle.rules.proofs.KindLaws.{barrier-of, broadcast-of, exchange-of, broadcast-fields, exchange-field}
 use Rattle.rules.proofs.StackLaws.{StoresLow}
 use Rattle.table.specs.declared.Header.{Header}
-use Rattle.process.specs.Given.{Part, Topped}
+use Rattle.process.specs.Given.{Part, isCollective, Topped}
 use Rattle.meeting.specs.Meeting.{collectiveOf}
+use Rattle.process.proofs.AloneLaws.{collective-range}
 use Rattle.process.proofs.StatementLaws.{top-formed, top-part}
 
 module _ (m : Node) where
@@ -33,8 +34,9 @@ module _ (m : Node) where
   is-exchange e = rw e
 
   -- kinds 23 to 25 are the collectives
-  pub collective-of : 23 ≤ m .kind → m .kind ≤ lastStatement → statementOf m ≡ collective (collectiveOf m)
-  collective-of h k =
+  pub collective-of : isCollective (m .kind) ≡ true → statementOf m ≡ collective (collectiveOf m)
+  collective-of t =
+      let range = collective-range (m .kind) t in
       elim (decLt (m .kind) 24) [
         | yes l ↦ let e : m .kind ≡ 23 = omega arith in rw (is-barrier e) (barrier-of m e)
         | no l ↦

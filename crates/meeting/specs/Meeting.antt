@@ -1,5 +1,5 @@
 -- What the functions on the roll are given, and the collective and the record that the code's numbers stand for.
-use mathlib.Core.Bool.{cond}
+use mathlib.Core.Bool.{true, cond}
 use mathlib.Core.List.{List}
 use mathlib.Core.Path.{_≡_}
 use Prim.Native.Nat.{ℕ, _*_, _≤_, _<_}
@@ -11,7 +11,8 @@ use Rattle.rules.specs.declared.Status.{Status}
 use Rattle.rules.specs.declared.Status.the-variants.{Running, Waiting, Ended}
 use Rattle.rules.specs.Arrivals.{arrivalSize, running, waiting, statusAt, arrivalNode, arrivalValue, arrivalSource}
 use Rattle.rules.specs.Process.{variablePlaces, mostProcesses}
-use Rattle.rules.specs.Table.{lastStatement, Collective, barrier, broadcast, exchange}
+use Rattle.rules.specs.Table.{Collective, barrier, broadcast, exchange}
+use Rattle.process.specs.Given.{isCollective}
 
 -- kinds 23 to 25
 unfoldable pub collectiveOf : Node → Collective
@@ -36,6 +37,5 @@ pub record Meeting (roll : List ℕ) (count : ℕ) (node : Node) : Type 0 where
   pub rolled : length roll ≡ arrivalSize * count
   pub some : 1 ≤ count
   pub few : count ≤ mostProcesses
-  pub from : 23 ≤ node .kind
-  pub to : node .kind ≤ lastStatement
+  pub meets : isCollective (node .kind) ≡ true
   pub stored : node .kind ≡ 24 → node .a < variablePlaces

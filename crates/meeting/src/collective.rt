@@ -1,6 +1,6 @@
 // Collectives (the paper's meetings): what a process brings to one, and what it takes away. Values go straight from the roll
 // to each process's words.
-ghost use mathlib.Core.Bool.{cond};
+ghost use mathlib.Core.Bool.{true, cond};
 ghost use mathlib.Core.Path.{_≡_};
 ghost use Prim.Native.Nat.{ℕ, _+_, _*_, _<_, _≤_};
 ghost use lib.Dec.{eqb};
@@ -9,7 +9,7 @@ ghost use Rattle.rules.specs.Arrivals.{arrivalSize, waiting, statusAt, runningR
 ghost use Rattle.rules.specs.Collective.{arrivalOf, gatheredFrom, received, completedState, releasedRoll};
 ghost use Rattle.rules.specs.Process.{processWords, mostProcesses, processAt, environment, top, popped};
 ghost use Rattle.rules.specs.declared.Status.the-variants.{Running};
-ghost use Rattle.process.specs.Given.{Stacked, Topped};
+ghost use Rattle.process.specs.Given.{Stacked, isCollective, Topped};
 ghost use Rattle.meeting.specs.Meeting.{Meeting, collectiveOf};
 use crate::arrivals::read;
 use crate::arrivals::source_of;
@@ -36,7 +36,7 @@ pub fn arrival_of(
     node: Node,
     arrival: Arrival,
 ) -> Arrival
-    requires { ⌜ Topped (now table) header (now words) count node × (23 ≤ node .kind) × (arrival .status ≡ Running) ⌝ }
+    requires { ⌜ Topped (now table) header (now words) count node × (isCollective (node .kind) ≡ true) × (arrival .status ≡ Running) ⌝ }
     ensures { λ r. ⌜ r ≡ arrivalOf (now (table .entry)) (environment (now (words .entry)) own count)
         (top (now (words .entry))) (collectiveOf node) ⌝ }
 {

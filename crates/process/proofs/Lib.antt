@@ -3,5 +3,7 @@ pub mod NumberLaws
 pub mod ReadLaws
 pub mod ExpressionLaws
 pub mod StackedLaws
+pub mod UnwindLaws
 pub mod StatementLaws
+pub mod AloneLaws
 pub mod LentLaws

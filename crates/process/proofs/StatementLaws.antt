@@ -2,24 +2,20 @@
 use mathlib.Core.Bool.{true, false}
 use mathlib.Core.List.{List}
 use mathlib.Core.Path.{_≡_}
-use Prim.Native.Nat.{ℕ, _+_, _*_, _≤_, _<_}
+use Prim.Native.Nat.{ℕ, _+_, _*_, _<_}
 use native.Mathlib.Decide.{decLt}
 use native.Mathlib.Omega.{arith}
-use lib.Dec.{leb}
 use lib.ListN.{length}
-use borrow.Author.Tests.{leb-true}
 use Rattle.rules.specs.declared.Node.{Node}
 use Rattle.rules.specs.Process.{variablePlaces, stackPlaces, environment, depth, top, needsPlace}
-use Rattle.rules.specs.Table.{firstStatement, lastStatement}
 use Rattle.rules.specs.Table.{procedures, nodes, body, nodeAt, unpacked, statementAt, statementOf, Statement, loop}
 use Rattle.rules.specs.WellFormed.{isStatement, expressionPart}
-use Rattle.rules.proofs.AnswerLaws.{both-left, both-right}
 use Rattle.rules.proofs.Formed.{Formed, formed, word-past}
 use Rattle.rules.proofs.KindLaws.{sequence-of, loop-of, statement-here}
 use Rattle.rules.proofs.KindLaws.{assign-fields, branch-fields, loop-fields, call-field, latch-fields}
 use Rattle.rules.proofs.ValueLaws.{expression-part-below, expression-part-sort}
 use Rattle.table.specs.declared.Header.{Header}
-use Rattle.process.specs.Given.{Given, Stacked, Part, Topped, Turn}
+use Rattle.process.specs.Given.{Read, Given, Stacked, Part, Topped, Turn}
 
 -- a node past the last is no statement
 pub statement-below : (table : List ℕ) → Formed table → (n : ℕ) → isStatement table n ≡ true → n < nodes table
@@ -34,20 +30,6 @@ statement-below table formed n e =
           absurd (omega arith)
     ]
 
--- the kind of a statement node m that the table has at n
-module _ (table : List ℕ) (n : ℕ) (m : Node) (here : m ≡ nodeAt table n) where
-  pub kind-from : isStatement table n ≡ true → firstStatement ≤ m .kind
-  unfolding isStatement
-  kind-from e =
-      rw (← here) at
-      (leb-true firstStatement (nodeAt table n .kind) (both-left (leb firstStatement (nodeAt table n .kind)) (leb (nodeAt table n .kind) lastStatement) e))
-
-  pub kind-to : isStatement table n ≡ true → m .kind ≤ lastStatement
-  unfolding isStatement
-  kind-to e =
-      rw (← here) at
-      (leb-true (nodeAt table n .kind) lastStatement (both-right (leb firstStatement (nodeAt table n .kind)) (leb (nodeAt table n .kind) lastStatement) e))
-
 -- the top statement of a process
 module _ {table : List ℕ} {header : Header} {words : List ℕ} {count : ℕ} {m : Node}
     (t : Topped table header words count m) where
@@ -59,12 +41,6 @@ module _ {table : List ℕ} {header : Header} {words : List ℕ} {count : ℕ} {
 
   pub top-statement : {s : Statement} → statementOf m ≡ s → statementAt table (top words) ≡ s
   top-statement e = statement-here table top-formed (top words) m (t .here) e
-
-  pub top-from : firstStatement ≤ m .kind
-  top-from = kind-from table (top words) m (t .here) (t .statement)
-
-  pub top-to : m .kind ≤ lastStatement
-  top-to = kind-to table (top words) m (t .here) (t .statement)
 
   -- a part that question 9 asks about
   pub top-part : {a : ℕ} → expressionPart table (top words) a ≡ true → Part table a
@@ -116,3 +92,6 @@ module _ {table : List ℕ} {header : Header} {words : List ℕ} {own count : �
   turn-latch e =
       let f = latch-fields table shape (top words) m (t .topped .here) e in
       (t .topped .given, t .topped .stacked, top-part (t .topped) (f .0), top-part (t .topped) (f .1))
+
+  pub turn-leave : Read table header × Stacked words × (top words < nodes table)
+  turn-leave = (t .topped .given .read, t .topped .stacked, top-below (t .topped))

@@ -1,9 +1,10 @@
 -- What the functions on one process's words are given: the facts that the questions of a start and a step have shown, and the
 -- operator that a kind stands for.
 use mathlib.Core.List.{List, [], _∷_}
-use mathlib.Core.Bool.{true}
+use mathlib.Core.Bool.{Bool, true, false, _&&_}
 use mathlib.Core.Path.{_≡_}
 use Prim.Native.Nat.{ℕ, _-_, _≤_, _<_}
+use lib.Dec.{leb}
 use lib.ListN.{length, getD}
 use Rattle.rules.specs.declared.Node.{Node}
 use Rattle.rules.specs.Table.{nodes, nodeAt, statementAt}
@@ -46,8 +47,12 @@ pub record Topped (table : List ℕ) (header : Header) (words : List ℕ) (count
   pub here : node ≡ nodeAt table (top words)
   pub statement : isStatement table (top words) ≡ true
 
+-- kinds 23 to 25
+abbrev pub isCollective : ℕ → Bool
+isCollective kind = leb 23 kind && leb kind 25
+
 -- one whose top is no collective and that has a free stack place if it needs one
 pub record Turn (table : List ℕ) (header : Header) (words : List ℕ) (own count : ℕ) (node : Node) : Type 0 where
   pub topped : Topped table header words count node
-  pub alone : node .kind < 23
+  pub alone : isCollective (node .kind) ≡ false
   pub place : needsPlace table (environment words own count) (statementAt table (top words)) ≡ true → depth words < stackPlaces

@@ -7,10 +7,12 @@ ghost use lib.Dec.{ltb};
 ghost use lib.ListN.{length, set};
 ghost use Rattle.rules.specs.Evaluation.{value};
 ghost use Rattle.rules.specs.Process.{variablePlaces, latchPlaces, stackPlaces, latchesAt, processWords};
-ghost use Rattle.rules.specs.Process.{processAt, environment, depth, top, popped, replaced, pushed, advanced, needsPlace};
-ghost use Rattle.rules.specs.Table.{Statement, body, statementAt};
-ghost use Rattle.process.specs.Given.{Given, Stacked, Part, Turn};
+ghost use Rattle.rules.specs.Process.{processAt, environment, depth, top, popped, replaced, pushed, unwound, advanced, needsPlace};
+ghost use Rattle.rules.specs.Table.{Statement, nodes, body, statementAt};
+ghost use Rattle.rules.specs.WellFormed.{nearestLoop};
+ghost use Rattle.process.specs.Given.{Read, Given, Stacked, Part, isCollective, Turn};
 use crate::evaluation::evaluate;
+use loops::nearest_loop;
 use rules::Node;
 use rules::layout::DEPTH_AT;
 use rules::layout::LATCH_PLACES;
@@ -18,6 +20,7 @@ use rules::layout::LATCHES_AT;
 use rules::layout::PROCESS_WORDS;
 use rules::layout::STACK_AT;
 use table::Header;
+use table::shape::between;
 use table::words::body;
 
 pub fn process_at(state: &[u32], p: usize) -> &[u32]
@@ -149,6 +152,37 @@ fn latch(table: &[u8], header: Header, words: &mut [u32], own: u32, count: u32, 
     pop(words);
 }
 
+// "the stack is popped down to and including the highest entry of that while"
+fn unwind(words: &mut [u32], w: u32)
+    requires { ⌜ (length (now words) ≡ processWords) × (depth (now words) ≤ stackPlaces) ⌝ }
+    ensures { λ _. ⌜ now (words .exit) ≡ unwound w (depth (now (words .entry))) (now (words .entry)) ⌝ }
+{
+    while words[DEPTH_AT] != 0 {
+        let entry = top(words);
+        pop(words);
+        if entry == w {
+            return;
+        }
+    }
+}
+
+// "ends the nearest while around it in the same procedure"
+fn leave(table: &[u8], header: Header, words: &mut [u32])
+    requires { ⌜ Read (now table) header × Stacked (now words) × (top (now words) < nodes (now table)) ⌝ }
+    ensures { λ _. ⌜ now (words .exit)
+        ≡ unwound (nearestLoop (now (table .entry)) (top (now (words .entry)))) (depth (now (words .entry))) (now (words .entry)) ⌝ }
+{
+    let w = nearest_loop(table, header, top(words) as usize);
+    unwind(words, w as u32);
+}
+
+// Kinds 23 to 25 are the collectives.
+pub fn is_collective(kind: u32) -> bool
+    ensures { λ r. ⌜ r ≡ isCollective kind ⌝ }
+{
+    between(23, kind as usize, 25)
+}
+
 // The step of the top statement, which is no collective.
 pub fn advance(table: &[u8], header: Header, words: &mut [u32], own: u32, count: u32, node: Node)
     requires { ⌜ Turn (now table) header (now words) own count node ⌝ }
@@ -166,6 +200,7 @@ pub fn advance(table: &[u8], header: Header, words: &mut [u32], own: u32, count:
         20 => repeat(table, header, words, own, count, node),
         21 => call(table, words, a),
         22 => latch(table, header, words, own, count, a, b),
+        26 => leave(table, header, words),
         _ => pop(words),
     }
 }

@@ -3,7 +3,7 @@ use mathlib.Core.Bool.{true, false}
 use mathlib.Core.List.{List}
 use mathlib.Core.Logic.{⊎-elim}
 use mathlib.Core.Path.{_≡_, refl}
-use Prim.Native.Nat.{ℕ, zero, suc, _+_, _-_, _*_, _≤_, _<_}
+use Prim.Native.Nat.{ℕ, _+_, _-_, _*_, _≤_}
 use native.Mathlib.Nat.{mul-le-mul}
 use native.Mathlib.Omega.{arith}
 use lib.Dec.{eqb}
@@ -14,10 +14,11 @@ use Rattle.rules.specs.Arrivals.{statusAt}
 use Rattle.rules.specs.Evaluation.{Environment, doors}
 use Rattle.rules.specs.Process.{variablePlaces, mostProcesses, depthAt, stackAt, depth, top, needsPlace}
 use Rattle.rules.specs.Step.{stackFits, recordFits}
-use Rattle.rules.specs.Table.{firstStatement, lastStatement, nodes, statementOf}
+use Rattle.rules.specs.Table.{nodes, statementOf}
 use Rattle.rules.specs.WellFormed.{isStatement}
 use Rattle.rules.proofs.ChoiceLaws.{bool-cases, all-at}
 use Rattle.rules.proofs.Formed.{Formed}
+use Rattle.rules.proofs.KindLaws.{by-kind}
 use Rattle.process.proofs.StatementLaws.{statement-below}
 
 pub statement-past : (table : List ℕ) → Formed table → (n : ℕ) → nodes table ≤ n → isStatement table n ≡ false
@@ -50,26 +51,12 @@ record-empty table words roll p u e =
     (bool-cases (eqb (statusAt roll p) 0))
 
 -- only kinds 18 and 20 can need a stack place
-needs-at : (table : List ℕ) (env : Environment) (m : Node) (j : ℕ) → m .kind - firstStatement ≡ j → j < 10
-    → (m .kind ≡ 18 → ⊥)
-    → (m .kind ≡ 20 → ⊥) → needsPlace table env (statementOf m) ≡ false
-unfolding statementOf needsPlace
-needs-at table env m zero e h n l = rw e
-needs-at table env m (suc zero) e h n l = rw e
-needs-at table env m (suc (suc zero)) e h n l = absurd (n (omega arith))
-needs-at table env m (suc (suc (suc zero))) e h n l = rw e
-needs-at table env m (suc (suc (suc (suc zero)))) e h n l = absurd (l (omega arith))
-needs-at table env m (suc (suc (suc (suc (suc zero))))) e h n l = rw e
-needs-at table env m (suc (suc (suc (suc (suc (suc zero)))))) e h n l = rw e
-needs-at table env m (suc (suc (suc (suc (suc (suc (suc zero))))))) e h n l = rw e
-needs-at table env m (suc (suc (suc (suc (suc (suc (suc (suc zero)))))))) e h n l = rw e
-needs-at table env m (suc (suc (suc (suc (suc (suc (suc (suc (suc zero))))))))) e h n l = rw e
-needs-at table env m (suc (suc (suc (suc (suc (suc (suc (suc (suc (suc j)))))))))) e h n l = absurd (omega arith)
-
-pub needs-other : (table : List ℕ) (env : Environment) (m : Node) → m .kind ≤ lastStatement → (m .kind ≡ 18 → ⊥)
-    → (m .kind ≡ 20 → ⊥)
+pub needs-other : (table : List ℕ) (env : Environment) (m : Node) → (m .kind ≡ 18 → ⊥) → (m .kind ≡ 20 → ⊥)
     → needsPlace table env (statementOf m) ≡ false
-needs-other table env m h n l = needs-at table env m (m .kind - firstStatement) refl (omega arith) n l
+unfolding needsPlace
+needs-other table env m n l =
+    by-kind (λ s. needsPlace table env s ≡ false) m (λ e. refl) (λ e. absurd (n e)) (λ e. refl) (λ e. absurd (l e)) (λ e. refl)
+    (λ e. refl) (λ e. refl) (λ e. refl) (λ e. refl) (λ e. refl) refl
 
 -- the start words of all processes are few
 pub given-fits : (size count : ℕ) → size ≤ variablePlaces + doors → count ≤ mostProcesses

@@ -1,20 +1,23 @@
 // Question 23: does each process's part of state and roll fit?
-ghost use mathlib.Core.Bool.{true, false};
+ghost use mathlib.Core.Bool.{true, false, not};
 ghost use mathlib.Core.Path.{_≡_};
-ghost use Prim.Native.Nat.{_+_, _*_, _<_, _≤_};
-ghost use lib.ListN.{length};
+ghost use Prim.Native.Nat.{_+_, _-_, _*_, _<_, _≤_};
+ghost use lib.Dec.{eqb};
+ghost use lib.ListN.{length, getD};
 ghost use Rattle.rules.specs.Arrivals.{arrivalSize};
-ghost use Rattle.rules.specs.Choice.{firstFailing};
-ghost use Rattle.rules.specs.Process.{stackPlaces, processWords, depth, top};
-ghost use Rattle.rules.specs.Step.{stackFits, fieldsZero, lackedZero, waitFits, recordFits, processFits};
-ghost use Rattle.rules.specs.Table.{lastStatement, statementOf, onCollective};
+ghost use Rattle.rules.specs.Choice.{firstFailing, allBelow};
+ghost use Rattle.rules.specs.Process.{stackAt, stackPlaces, processWords, depth, top};
+ghost use Rattle.rules.specs.Step.{stackFits, fieldsZero, lackedZero, waitFits, leaveFits, recordFits, processFits};
+ghost use Rattle.rules.specs.Table.{statementOf, onCollective};
 ghost use Rattle.rules.specs.WellFormed.{isStatement};
 ghost use Rattle.process.specs.Given.{Read, Stacked};
 ghost use Rattle.questions.specs.Asked.{wordsFit};
+use loops::nearest_loop;
 use meeting::arrivals::node_of;
 use meeting::arrivals::source_of;
 use meeting::arrivals::status_at;
 use meeting::arrivals::value_of;
+use process::process::is_collective;
 use process::process::process_at;
 use process::process::top;
 use rules::Node;
@@ -24,6 +27,7 @@ use rules::layout::LAST_STATEMENT;
 use rules::layout::STACK_AT;
 use rules::layout::STACK_PLACES;
 use table::Header;
+use table::words::kind_at;
 use table::words::node_at;
 
 // The depth of a full stack, as a word holds it.
@@ -82,11 +86,11 @@ fn fields_zero(roll: &[u32], p: usize) -> bool
 
 // "a field the kind lacks is 0", and false of a statement that is no collective
 fn lacked_zero(roll: &[u32], p: usize, node: Node) -> bool
-    requires { ⌜ (arrivalSize * p + 3 < length (now roll)) × (node .kind ≤ lastStatement) ⌝ }
+    requires { ⌜ arrivalSize * p + 3 < length (now roll) ⌝ }
     ensures { λ r. ⌜ r ≡ onCollective (statementOf node) (lackedZero (now (roll .entry)) p) false ⌝ }
 {
     let kind = node.kind;
-    if kind < 23 {
+    if !is_collective(kind) {
         return false;
     }
     if kind == 24 {
@@ -113,6 +117,36 @@ fn wait_fits(table: &[u8], header: Header, words: &[u32], roll: &[u32], p: usize
     lacked_zero(roll, p, node_at(table, header, entry as usize))
 }
 
+// Whether node w lies below the top.
+fn lies_below(words: &[u32], w: usize) -> bool
+    requires { ⌜ Stacked (now words) ⌝ }
+    ensures { λ r. ⌜ r ≡ not (allBelow (λ i. not (eqb (getD (now (words .entry)) (stackAt + i) 0) w))
+        (depth (now (words .entry)) - 1)) ⌝ }
+{
+    let below = words[DEPTH_AT] as usize - 1;
+    let mut height = 0;
+    while height < below {
+        let at = STACK_AT + height;
+        if words[at] as usize == w {
+            return true;
+        }
+        height += 1;
+    }
+    false
+}
+
+// "A made-up stack with a leave on top and that while not below is number 23."
+fn leave_fits(table: &[u8], header: Header, words: &[u32]) -> bool
+    requires { ⌜ Read (now table) header × Stacked (now words) × (isStatement (now table) (top (now words)) ≡ true) ⌝ }
+    ensures { λ r. ⌜ r ≡ leaveFits (now (table .entry)) (now (words .entry)) ⌝ }
+{
+    let n = top(words) as usize;
+    if kind_at(table, header, n) != 26 {
+        return true;
+    }
+    lies_below(words, nearest_loop(table, header, n))
+}
+
 fn record_fits(table: &[u8], header: Header, words: &[u32], roll: &[u32], p: usize) -> bool
     requires { ⌜ Read (now table) header × (length (now words) ≡ processWords) × (depth (now words) ≤ stackPlaces)
         × (arrivalSize * p + 3 < length (now roll)) × (stackFits (now table) (now words) ≡ true) ⌝ }
@@ -130,7 +164,10 @@ fn record_fits(table: &[u8], header: Header, words: &[u32], roll: &[u32], p: usi
         return false;
     }
     if status == 0 {
-        return fields_zero(roll, p);
+        if !fields_zero(roll, p) {
+            return false;
+        }
+        return leave_fits(table, header, words);
     }
     if status == 1 {
         return wait_fits(table, header, words, roll, p);

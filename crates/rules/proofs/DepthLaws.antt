@@ -1,38 +1,42 @@
--- The stack never overflows after a start: each of its entries has a home, so question 24 refuses no step of a run.
-use mathlib.Core.Bool.{Bool, true, false, cond, and-false}
+-- The stack never overflows after a start: each of its entries has a home, so question 24 refuses no step of a run. And a leave
+-- has its while below it.
+use mathlib.Core.Bool.{Bool, true, false, cond, not, and-false}
 use mathlib.Core.List.{List, _∷_, _++_, append-assoc}
-use mathlib.Core.Logic.{⊎-elim}
-use mathlib.Core.Path.{_≡_, refl, _∙_, ap}
-use Prim.Native.Nat.{ℕ, suc, _+_, _-_, _≤_, _<_}
+use mathlib.Core.Logic.{inl, inr, ⊎-elim}
+use mathlib.Core.Path.{_≡_, refl, sym, _∙_, ap, subst}
+use Prim.Native.Nat.{ℕ, zero, suc, _+_, _-_, _≤_, _<_}
 use native.Mathlib.Decide.{decLt}
 use native.Mathlib.Omega.{arith}
 use lib.Dec.{ltb, eqb}
 use lib.ListN.{length, set, take, drop, replicate, length-set, length-append, length-take, length-drop, length-replicate}
 use lib.Seq.{getD-at, getD-append-add}
-use borrow.Author.Tests.{ltb-true, eqb-true}
+use borrow.Author.Tests.{ltb-true, eqb-true, eq-eqb}
 use Rattle.rules.specs.Collective.{received}
 use Rattle.rules.specs.Evaluation.{Environment, value}
 use Rattle.rules.specs.Process.{variablePlaces, gatheredPlaces, latchPlaces, mostProcesses, latchesAt, depthAt, stackAt, stackPlaces, processWords}
-use Rattle.rules.specs.Process.{processAt, environment, depth, top, popped, replaced, pushed, advanced, needsPlace}
+use Rattle.rules.specs.Process.{processAt, environment, depth, top, popped, replaced, pushed, unwound, advanced, needsPlace}
 use Rattle.rules.specs.Start.{startSize, startProcess}
-use Rattle.rules.specs.Step.{stackFits, placeLacked}
-use Rattle.rules.specs.Table.{variables, procedures, nodes, body, mainBody, statementAt}
-use Rattle.rules.specs.Table.{Statement, nothing, assign, sequence, branch, loop, call, latch, collective, Collective}
-use Rattle.rules.specs.WellFormed.{isStatement}
-use Rattle.rules.proofs.ChoiceLaws.{bool-cases, all-true}
-use Rattle.rules.proofs.Formed.{Formed}
+use Rattle.rules.specs.Step.{stackFits, leaveFits, placeLacked}
+use Rattle.rules.specs.Table.{variables, procedures, nodes, body, mainBody, statementAt, isLeave}
+use Rattle.rules.specs.Table.{Statement, nothing, assign, sequence, branch, loop, call, latch, collective, leave, Collective}
+use Rattle.rules.specs.WellFormed.{isStatement, openParts, nearestLoop}
+use Rattle.rules.proofs.ChoiceLaws.{bool-cases, all-true, all-false}
+use Rattle.rules.proofs.Formed.{Formed, Enclosed}
 use Rattle.rules.proofs.HomeLaws.{Home, calls-body, sequence-homes, branch-homes, loop-home, call-home}
-use Rattle.rules.proofs.HomeLaws.{sequence-place, loop-place, assign-low}
+use Rattle.rules.proofs.HomeLaws.{sequence-place, loop-place, assign-low, call-below}
+use Rattle.rules.proofs.LoopLaws.{OpenPart, nearest-part, nearest-body, nearest-procedure}
+use Rattle.rules.proofs.LoopLaws.{Within, Inside, inside-near, inside-same}
 use Rattle.rules.proofs.SizeLaws.{room, room-suc, room-all}
 use Rattle.rules.proofs.StackLaws.{entry, popped-depth, popped-entry, replaced-depth, replaced-entry, replaced-top}
 use Rattle.rules.proofs.StackLaws.{pushed-depth, pushed-entry, pushed-top, top-entry, set-depth, set-entry}
 use Rattle.rules.proofs.StackLaws.{StoresLow, received-depth, received-entry, received-length, replaced-length}
-use Rattle.rules.proofs.StackLaws.{latched-length}
+use Rattle.rules.proofs.StackLaws.{latched-length, popped-length, stackOf, stack, stackOf-kept, stack-top, stack-replaced}
 
--- a stack of nodes at home
+-- a stack of nodes at home, each inside its nearest while
 pub record Placed (table words : List ℕ) : Type 0 where
   pub depth-high : depth words ≤ stackPlaces
   pub homes : (i : ℕ) → i < depth words → Home table (entry words i) i
+  pub inside : (i : ℕ) → i < depth words → Inside table (entry words i) (stackOf words i)
 
 -- the stack's moves
 
@@ -42,6 +46,9 @@ placed-kept table words others e same placed =
     record {
       depth-high = rw e (placed .depth-high);
       homes = λ i l. rw (same i) (placed .homes i (omega arith));
+      inside = λ i l.
+          inside-same table (entry others i) (entry words i) (stackOf others i) (stackOf words i) (same i)
+          (stackOf-kept others words i (λ j m. same j)) (placed .inside i (omega arith));
     }
 
 module _ (table words : List ℕ) (sized : length words ≡ processWords) (placed : Placed table words) where
@@ -52,10 +59,16 @@ module _ (table words : List ℕ) (sized : length words ≡ processWords) (place
       record {
         depth-high = omega arith;
         homes = λ i l. rw (popped-entry words sized i (omega arith)) (placed .homes i (omega arith));
+        inside = λ i l.
+            inside-same table (entry (popped words) i) (entry words i) (stackOf (popped words) i) (stackOf words i)
+            (popped-entry words sized i (omega arith))
+            (stackOf-kept (popped words) words i (λ j m. popped-entry words sized j (omega arith)))
+            (placed .inside i (omega arith));
       }
 
-  placed-replaced : (n : ℕ) → 0 < depth words → Home table n (depth words - 1) → Placed table (replaced words n)
-  placed-replaced n h home =
+  placed-replaced : (n : ℕ) → 0 < depth words → Home table n (depth words - 1)
+      → Inside table n (stackOf words (depth words - 1)) → Placed table (replaced words n)
+  placed-replaced n h home within =
       let e = replaced-depth words sized n h in
       let high = placed .depth-high in
       record {
@@ -67,10 +80,24 @@ module _ (table words : List ℕ) (sized : length words ≡ processWords) (place
                   let here : i ≡ depth words - 1 = omega arith in
                   rw (here, replaced-top words sized n h high) home
             ];
+        inside = λ i l.
+            let below : stackOf (replaced words n) i ≡ stackOf words i =
+            stackOf-kept (replaced words n) words i (λ j m. replaced-entry words sized n j (omega arith)) in
+            elim (decLt i (depth words - 1)) [
+              | yes m ↦
+                  inside-same table (entry (replaced words n) i) (entry words i) (stackOf (replaced words n) i)
+                  (stackOf words i) (replaced-entry words sized n i m) below (placed .inside i (omega arith))
+              | no m ↦
+                  let here : i ≡ depth words - 1 = omega arith in
+                  inside-same table (entry (replaced words n) i) n (stackOf (replaced words n) i)
+                  (stackOf words (depth words - 1)) (ap (entry (replaced words n)) here ∙ replaced-top words sized n h high)
+                  (below ∙ ap (stackOf words) here) within
+            ];
       }
 
-  placed-pushed : (n : ℕ) → depth words < stackPlaces → Home table n (depth words) → Placed table (pushed words n)
-  placed-pushed n h home =
+  placed-pushed : (n : ℕ) → depth words < stackPlaces → Home table n (depth words) → Inside table n (stack words)
+      → Placed table (pushed words n)
+  placed-pushed n h home within =
       let e = pushed-depth words sized n in
       record {
         depth-high = omega arith;
@@ -81,7 +108,33 @@ module _ (table words : List ℕ) (sized : length words ≡ processWords) (place
                   let here : i ≡ depth words = omega arith in
                   rw (here, pushed-top words sized n h) home
             ];
+        inside = λ i l.
+            let below : stackOf (pushed words n) i ≡ stackOf words i =
+            stackOf-kept (pushed words n) words i (λ j m. pushed-entry words sized n j (omega arith)) in
+            elim (decLt i (depth words)) [
+              | yes m ↦
+                  inside-same table (entry (pushed words n) i) (entry words i) (stackOf (pushed words n) i)
+                  (stackOf words i) (pushed-entry words sized n i m) below (placed .inside i m)
+              | no m ↦
+                  let here : i ≡ depth words = omega arith in
+                  inside-same table (entry (pushed words n) i) n (stackOf (pushed words n) i) (stack words)
+                  (ap (entry (pushed words n)) here ∙ pushed-top words sized n h) (below ∙ ap (stackOf words) here) within
+            ];
       }
+
+-- entries go one by one
+placed-unwound : (table : List ℕ) (w d : ℕ) (words : List ℕ) → length words ≡ processWords → Placed table words
+    → Placed table (unwound w d words)
+unfolding unwound
+placed-unwound table w zero words sized placed = placed
+placed-unwound table w (suc d) words sized placed =
+    let once = placed-popped table words sized placed in
+    picked (eqb (top words) w) once (placed-unwound table w d (popped words) (popped-length words ∙ sized) once)
+  where
+    picked : (test : Bool) → Placed table (popped words) → Placed table (unwound w d (popped words))
+        → Placed table (cond test (popped words) (unwound w d (popped words)))
+    picked true f g = f
+    picked false f g = g
 
 -- what question 23 asks of the stack
 pub placed-fits : (table words : List ℕ) → Placed table words → stackFits table words ≡ true
@@ -116,6 +169,45 @@ module _ (table : List ℕ) (f : Formed table) (words : List ℕ) (sized : lengt
   top-home : Home table (top words) (depth words - 1)
   top-home = rw (top-entry words sized h) (placed .homes (depth words - 1) (omega arith))
 
+  pub top-inside : Inside table (top words) (stackOf words (depth words - 1))
+  top-inside =
+      inside-same table (top words) (entry words (depth words - 1)) (stackOf words (depth words - 1))
+      (stackOf words (depth words - 1)) (top-entry words sized h) refl (placed .inside (depth words - 1) (omega arith))
+
+  -- a part that stands in the same while
+  part-inside : (a : ℕ) → OpenPart table f a (top words) → Inside table a (stackOf words (depth words - 1))
+  part-inside a i =
+      inside-near table (top words) a (stackOf words (depth words - 1)) (nearest-part table f (top words) a i) top-inside
+
+  -- what question 23 asks of a leave
+  within-found : (w k : ℕ) → Within table w (stackOf words k) → (i : ℕ) × (i < k) × (entry words i ≡ w)
+  within-found w zero none = absurd none
+  within-found w (suc k) (inl e) = (k, omega arith, e)
+  within-found w (suc k) (inr deeper) = let (i, l, e) = within-found w k (deeper .1) in (i, omega arith, e)
+
+  is-leave : (s : Statement) → isLeave s ≡ true → s ≡ leave
+  is-leave nothing e = let z : _≡_ {A = ℕ} 0 1 = cc in absurd (omega arith)
+  is-leave (assign a b) e = let z : _≡_ {A = ℕ} 0 1 = cc in absurd (omega arith)
+  is-leave (sequence a b) e = let z : _≡_ {A = ℕ} 0 1 = cc in absurd (omega arith)
+  is-leave (branch a b c) e = let z : _≡_ {A = ℕ} 0 1 = cc in absurd (omega arith)
+  is-leave (loop a b) e = let z : _≡_ {A = ℕ} 0 1 = cc in absurd (omega arith)
+  is-leave (call p) e = let z : _≡_ {A = ℕ} 0 1 = cc in absurd (omega arith)
+  is-leave (latch a b) e = let z : _≡_ {A = ℕ} 0 1 = cc in absurd (omega arith)
+  is-leave (collective k) e = let z : _≡_ {A = ℕ} 0 1 = cc in absurd (omega arith)
+  is-leave leave e = refl
+
+  pub leave-fits : Enclosed table → leaveFits table words ≡ true
+  unfolding leaveFits
+  leave-fits enclosed =
+      let w = nearestLoop table (top words) in
+      ⊎-elim
+      (λ (e : isLeave (statementAt table (top words)) ≡ true).
+      let near = enclosed (top words) (is-leave (statementAt table (top words)) e) in
+      let (i, l, g) = within-found w (depth words - 1) (top-inside near) in
+      simp (e, all-false (λ j. not (eqb (entry words j) w)) (depth words - 1) i l (simp (eq-eqb (entry words i) w g))))
+      (λ (e : isLeave (statementAt table (top words)) ≡ false). simp e)
+      (bool-cases (isLeave (statementAt table (top words))))
+
   pub top-statement : isStatement table (top words) ≡ true
   top-statement = top-home .statement
 
@@ -127,23 +219,33 @@ module _ (table : List ℕ) (f : Formed table) (words : List ℕ) (sized : lengt
       let place : depth words < stackPlaces = omega (arith, loop-place table f (top words) (depth words - 1) top-home a b s) in
       placed-pushed table words sized placed b place
       (rw e at (loop-home table f (top words) (depth words - 1) top-home a b s))
+      (λ l. subst (Within table (nearestLoop table b)) (sym (stack-top words sized h)) (inl (sym (nearest-body table f (top words) a b s))))
 
   placed-sequence : (a b : ℕ) → statementAt table (top words) ≡ sequence a b → Placed table (pushed (replaced words b) a)
+  unfolding openParts
   placed-sequence a b s =
       let homes = sequence-homes table f (top words) (depth words - 1) top-home a b s in
+      let first : OpenPart table f a (top words) = rw s (inl refl) in
+      let second : OpenPart table f b (top words) = rw s (inr (inl refl)) in
       let kept : depth (replaced words b) ≡ depth words = replaced-depth words sized b h in
       let e : suc (depth words - 1) ≡ depth (replaced words b) = omega arith in
       let place : depth (replaced words b) < stackPlaces =
       omega (arith, sequence-place table f (top words) (depth words - 1) top-home a b s) in
       placed-pushed table (replaced words b) (replaced-length words b ∙ sized)
-      (placed-replaced table words sized placed b h (homes .1)) a place (rw e at (homes .0))
+      (placed-replaced table words sized placed b h (homes .1) (part-inside b second)) a place (rw e at (homes .0))
+      (λ l.
+      subst (Within table (nearestLoop table a)) (sym (stack-replaced words sized b h (placed .depth-high)))
+      (inr (nearest-part table f (top words) b second ∙ sym (nearest-part table f (top words) a first), part-inside a first l)))
 
   placed-branch : (a b c : ℕ) (test : Bool) → statementAt table (top words) ≡ branch a b c
       → Placed table (replaced words (cond test c b))
+  unfolding openParts
   placed-branch a b c true s =
       placed-replaced table words sized placed c h (branch-homes table f (top words) (depth words - 1) top-home a b c s .1)
+      (part-inside c (rw s (inr (inl refl))))
   placed-branch a b c false s =
       placed-replaced table words sized placed b h (branch-homes table f (top words) (depth words - 1) top-home a b c s .0)
+      (part-inside b (rw s (inl refl)))
 
   module _ (env : Environment) where
     advanced-by : (s : Statement) → statementAt table (top words) ≡ s → Placed table (advanced table env words s)
@@ -159,12 +261,14 @@ module _ (table : List ℕ) (f : Formed table) (words : List ℕ) (sized : lengt
     advanced-by (call q) e =
         placed-replaced table words sized placed (body table q) h
         (call-home table f (top words) (depth words - 1) top-home q e)
+        (λ l. absurd (omega (arith, nearest-procedure table f q (call-below table f (top words) q e))))
     advanced-by (latch a b) e =
         let x = value table env a in
         let v = value table env b in
         placed-popped table (cond (ltb x latchPlaces) (set words (latchesAt + x) v) words)
         (latched-length words (ltb x latchPlaces) (latchesAt + x) v ∙ sized) (placed-latched table words x v placed)
     advanced-by (collective k) e = placed
+    advanced-by leave e = placed-unwound table (nearestLoop table (top words)) (depth words) words sized placed
 
     -- a step of a statement that is no collective keeps the homes; a collective is left where it is
     pub placed-advanced : Placed table (advanced table env words (statementAt table (top words)))
@@ -182,6 +286,7 @@ module _ (table : List ℕ) (f : Formed table) (words : List ℕ) (sized : lengt
     no-place (call q) e d = refl
     no-place (latch a b) e d = refl
     no-place (collective k) e d = refl
+    no-place leave e d = refl
 
     -- what question 24 asks: at the full depth no place is needed
     pub placed-needs : depth words ≡ stackPlaces → needsPlace table env (statementAt table (top words)) ≡ false
@@ -225,6 +330,10 @@ placed-one table f words d e =
     record {
       depth-high = omega arith;
       homes = λ i l. let z : i ≡ 0 = omega arith in rw (z, e) home;
+      inside = λ i l.
+          let z : i ≡ 0 = omega arith in
+          inside-same table (entry words i) (body table last) (stackOf words i) (stackOf words i) (ap (entry words) z ∙ e) refl
+          (λ m. absurd (omega (arith, nearest-procedure table f last below)));
     }
 
 module _ (table : List ℕ) (f : Formed table) (given : List ℕ) (sized : length given ≡ startSize table) where

@@ -1,4 +1,4 @@
--- What a well-formed table is: the facts behind the answer of questions 2 to 12, in one record.
+-- What a well-formed table is: the facts behind the answer of questions 2 to 12, in one record, and behind that of 26.
 use mathlib.Core.Bool.{true, _&&_}
 use mathlib.Core.List.{List}
 use mathlib.Core.Path.{_≡_, ap}
@@ -10,11 +10,11 @@ use lib.ListN.{length, getD, List·getD-eq-default}
 use borrow.Author.Tests.{leb-true, ltb-true, eqb-true}
 use Rattle.rules.specs.declared.Verdict.the-variants.{Accepted}
 use Rattle.rules.specs.Table.{wordAt, edition, variables, procedures, nodes, procedureWord, body, unpacked, nodeAt}
-use Rattle.rules.specs.Table.{constant, nothing, expressionOf, statementOf, expressionAt, statementAt}
+use Rattle.rules.specs.Table.{constant, nothing, leave, expressionOf, statementOf, expressionAt, statementAt}
 use Rattle.rules.specs.WellFormed.{question2, question3, question4, question5, question6, question7, question8}
-use Rattle.rules.specs.WellFormed.{question9, question10, question11, headerFits, procedureFits}
+use Rattle.rules.specs.WellFormed.{question9, question10, question11, question26, headerFits, procedureFits}
 use Rattle.rules.specs.WellFormed.{isStatement, kindKnown, nodeFits, expressionFits, statementFits, occurrences, uses}
-use Rattle.rules.specs.WellFormed.{usedOnce, calledBelow, wellFormed}
+use Rattle.rules.specs.WellFormed.{usedOnce, calledBelow, nearestLoop, leaveEnclosed, wellBuilt, wellFormed}
 use Rattle.rules.proofs.AnswerLaws.{both-left, both-right, then-first, then-rest, ask-holds, each-passed}
 use Rattle.rules.proofs.ChoiceLaws.{Passed}
 
@@ -34,6 +34,10 @@ pub record Formed (table : List ℕ) : Type 0 where
   pub statement-fits : (n : ℕ) → statementFits table n (statementAt table n) ≡ true
   pub used-once : (n : ℕ) → n < nodes table → occurrences n (uses table) ≡ 1
   pub called-below : (n : ℕ) → calledBelow table n (statementAt table n) ≡ true
+
+-- a leave has a while around it
+abbrev pub Enclosed : List ℕ → Type 0
+Enclosed table = (n : ℕ) → statementAt table n ≡ leave → nearestLoop table n < nodes table
 
 -- a word past the table's end reads as 0
 pub word-past : (table : List ℕ) (i : ℕ) → length table ≤ 4 * i → wordAt table i ≡ 0
@@ -70,8 +74,8 @@ record Passes (table : List ℕ) : Type 0 where
   once : Passed (usedOnce table) (nodes table)
   called : Passed (λ n. calledBelow table n (statementAt table n)) (nodes table)
 
-passes : (table : List ℕ) → wellFormed table ≡ Accepted → Passes table
-unfolding wellFormed
+passes : (table : List ℕ) → wellBuilt table ≡ Accepted → Passes table
+unfolding wellBuilt
 passes table e =
     let after2 = then-rest (question2 table) _ e in
     let after3 = then-rest (question3 table) _ after2 in
@@ -126,9 +130,9 @@ header table e =
       nodes-high = both-right (one && v1 && v2 && p1 && p2 && n1) n2 seven;
     }
 
-pub formed : (table : List ℕ) → wellFormed table ≡ Accepted → Formed table
+pub built : (table : List ℕ) → wellBuilt table ≡ Accepted → Formed table
 unfolding procedureFits nodeFits usedOnce expressionFits statementFits calledBelow
-formed table e =
+built table e =
     let q : Passes table = passes table e in
     let counts : Header table = header table (q .header) in
     let past : (n : ℕ) → (n < nodes table → ⊥) → nodes table ≤ n = λ n m. omega arith in
@@ -166,3 +170,19 @@ formed table e =
             | no m ↦ rw (statement-past table (q .sized) n (past n m))
           ];
     }
+
+pub formed : (table : List ℕ) → wellFormed table ≡ Accepted → Formed table
+unfolding wellFormed
+formed table e = built table (then-first (wellBuilt table) (question26 table) e)
+
+pub enclosed : (table : List ℕ) → wellFormed table ≡ Accepted → Enclosed table
+unfolding wellFormed leaveEnclosed
+enclosed table e n s =
+    let passed = each-passed 26 (nodes table) (leaveEnclosed table) (then-rest (wellBuilt table) (question26 table) e) in
+    elim (decLt n (nodes table)) [
+      | yes l ↦ ltb-true (nearestLoop table n) (nodes table) (rw s at (passed n l))
+      | no m ↦
+          let past = statement-past table (formed table e .sized) n (omega arith) in
+          let z : _≡_ {A = ℕ} 0 1 = cc in
+          absurd (omega arith)
+    ]

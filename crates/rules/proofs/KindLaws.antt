@@ -1,5 +1,5 @@
 -- What a node is, by its kind, and what a well-formed table says of its fields.
-use mathlib.Core.Bool.{true, _&&_}
+use mathlib.Core.Bool.{true, false, _&&_}
 use mathlib.Core.List.{List, [], _∷_}
 use mathlib.Core.Path.{_≡_, refl, sym, _∙_, ap}
 use Prim.Native.Nat.{ℕ, zero, suc, _+_, _-_, _≤_, _<_}
@@ -13,8 +13,8 @@ use Rattle.rules.specs.Table.{firstStatement, variables, procedures, nod
 use Rattle.rules.specs.Table.{expressionOf, statementOf, expressionAt, statementAt}
 use Rattle.rules.specs.Table.{Operator, sum, difference, product, quotient, less, equal, both}
 use Rattle.rules.specs.Table.{Expression, variable, door, slot, operation}
-use Rattle.rules.specs.Table.{Statement, nothing, assign, sequence, branch, loop, call, latch, collective}
-use Rattle.rules.specs.Table.{Collective, barrier, broadcast, exchange, onCollective}
+use Rattle.rules.specs.Table.{Statement, nothing, assign, sequence, branch, loop, call, latch, collective, leave}
+use Rattle.rules.specs.Table.{Collective, barrier, broadcast, exchange, isLeave}
 use Rattle.rules.specs.WellFormed.{expressionPart, statementPart, expressionFits, collectiveFits, statementFits}
 use Rattle.rules.proofs.AnswerLaws.{both-left, both-right}
 use Rattle.rules.proofs.Formed.{Formed}
@@ -50,10 +50,6 @@ module _ (m : Node) where
   -- kinds 6 to 12 are the operators in their order
   pub operation-of : 6 ≤ m .kind → m .kind ≤ 12 → expressionOf m ≡ operation (operatorAt (m .kind - 6)) (m .a) (m .b)
   operation-of h k = operation-at (m .kind - 6) (omega arith) (omega arith)
-
-  pub nothing-of : m .kind ≡ 16 → statementOf m ≡ nothing
-  unfolding statementOf
-  nothing-of e = rw e
 
   pub assign-of : m .kind ≡ 17 → statementOf m ≡ assign (m .a) (m .b)
   unfolding statementOf
@@ -91,21 +87,45 @@ module _ (m : Node) where
   unfolding statementOf
   exchange-of e = rw e
 
--- kinds below 23 are no collective
-module _ {A : Type 0} (m : Node) (meet : Collective → A) (other : A) where
-  alone-at : (j : ℕ) → m .kind - firstStatement ≡ j → j < 7 → onCollective (statementOf m) meet other ≡ other
+  pub leave-of : m .kind ≡ 26 → statementOf m ≡ leave
   unfolding statementOf
-  alone-at zero e h = rw e
-  alone-at (suc zero) e h = rw e
-  alone-at (suc (suc zero)) e h = rw e
-  alone-at (suc (suc (suc zero))) e h = rw e
-  alone-at (suc (suc (suc (suc zero)))) e h = rw e
-  alone-at (suc (suc (suc (suc (suc zero))))) e h = rw e
-  alone-at (suc (suc (suc (suc (suc (suc zero)))))) e h = rw e
-  alone-at (suc (suc (suc (suc (suc (suc (suc j))))))) e h = absurd (omega arith)
+  leave-of e = rw e
 
-  pub alone-of : m .kind < 23 → onCollective (statementOf m) meet other ≡ other
-  alone-of h = alone-at (m .kind - firstStatement) refl (omega arith)
+-- what holds of each statement that a kind stands for, and of nothing for all other kinds, holds of the statement that a node is
+module _ (P : Statement → Type 0) (m : Node)
+    (assign-case : m .kind ≡ 17 → P (assign (m .a) (m .b)))
+    (sequence-case : m .kind ≡ 18 → P (sequence (m .a) (m .b)))
+    (branch-case : m .kind ≡ 19 → P (branch (m .a) (m .b) (m .c)))
+    (loop-case : m .kind ≡ 20 → P (loop (m .a) (m .b)))
+    (call-case : m .kind ≡ 21 → P (call (m .a)))
+    (latch-case : m .kind ≡ 22 → P (latch (m .a) (m .b)))
+    (barrier-case : m .kind ≡ 23 → P (collective barrier))
+    (broadcast-case : m .kind ≡ 24 → P (collective (broadcast (m .a) (m .b) (m .c))))
+    (exchange-case : m .kind ≡ 25 → P (collective (exchange (m .a))))
+    (leave-case : m .kind ≡ 26 → P leave)
+    (other : P nothing) where
+  by-place : (i : ℕ) → m .kind - firstStatement ≡ i → P (statementOf m)
+  unfolding statementOf
+  by-place zero e = rw e other
+  by-place (suc zero) e = rw e (assign-case (omega arith))
+  by-place (suc (suc zero)) e = rw e (sequence-case (omega arith))
+  by-place (suc (suc (suc zero))) e = rw e (branch-case (omega arith))
+  by-place (suc (suc (suc (suc zero)))) e = rw e (loop-case (omega arith))
+  by-place (suc (suc (suc (suc (suc zero))))) e = rw e (call-case (omega arith))
+  by-place (suc (suc (suc (suc (suc (suc zero)))))) e = rw e (latch-case (omega arith))
+  by-place (suc (suc (suc (suc (suc (suc (suc zero))))))) e = rw e (barrier-case (omega arith))
+  by-place (suc (suc (suc (suc (suc (suc (suc (suc zero)))))))) e = rw e (broadcast-case (omega arith))
+  by-place (suc (suc (suc (suc (suc (suc (suc (suc (suc zero))))))))) e = rw e (exchange-case (omega arith))
+  by-place (suc (suc (suc (suc (suc (suc (suc (suc (suc (suc zero)))))))))) e = rw e (leave-case (omega arith))
+  by-place (suc (suc (suc (suc (suc (suc (suc (suc (suc (suc (suc i))))))))))) e = rw e other
+
+  pub by-kind : P (statementOf m)
+  by-kind = by-place (m .kind - firstStatement) refl
+
+pub no-leave : (m : Node) → (m .kind ≡ 26 → ⊥) → isLeave (statementOf m) ≡ false
+no-leave m other =
+    by-kind (λ s. isLeave s ≡ false) m (λ e. refl) (λ e. refl) (λ e. refl) (λ e. refl) (λ e. refl) (λ e. refl) (λ e. refl)
+    (λ e. refl) (λ e. refl) (λ e. absurd (other e)) refl
 
 -- the fields of a node m that a well-formed table has at n
 module _ (table : List ℕ) (formed : Formed table) (n : ℕ) (m : Node) (here : m ≡ nodeAt table n) where

@@ -8,6 +8,8 @@ pub mod KindLaws
 pub mod ValueLaws
 pub mod PartLaws
 pub mod SizeLaws
+pub mod LoopLaws
+pub mod LeaveLaws
 pub mod StackLaws
 pub mod HomeLaws
 pub mod DepthLaws
@@ -16,6 +18,7 @@ pub mod ArrivalLaws
 pub mod StatusLaws
 pub mod VerdictLaws
 pub mod View
+pub mod VisibleLaws
 pub mod SingleLaws
 pub mod ViewLaws
 pub mod ViewStep

@@ -14,9 +14,10 @@ use Rattle.rules.specs.Arrivals.{arrivalValue}
 use Rattle.rules.specs.Collective.{gatheredFrom, received}
 use Rattle.rules.specs.Evaluation.{Environment, value}
 use Rattle.rules.specs.Process.{latchPlaces, mostProcesses, gatheredAt, latchesAt, depthAt, stackAt, stackPlaces, processWords}
-use Rattle.rules.specs.Process.{depth, top, popped, replaced, pushed, advanced}
-use Rattle.rules.specs.Table.{Statement, nothing, assign, sequence, branch, loop, call, latch, collective}
+use Rattle.rules.specs.Process.{depth, top, popped, replaced, pushed, unwound, advanced}
+use Rattle.rules.specs.Table.{Statement, nothing, assign, sequence, branch, loop, call, latch, collective, leave}
 use Rattle.rules.specs.Table.{Collective, barrier, broadcast, exchange}
+use Rattle.rules.specs.WellFormed.{nearestLoop}
 
 -- the stack entry at height i, the lowest at 0
 abbrev pub entry : List ℕ → ℕ → ℕ
@@ -44,6 +45,17 @@ replaced-length words n = simp length-set
 pub pushed-length : (words : List ℕ) (n : ℕ) → length (pushed words n) ≡ length words
 unfolding pushed
 pushed-length words n = simp length-set
+
+pub unwound-length : (w d : ℕ) (words : List ℕ) → length (unwound w d words) ≡ length words
+unfolding unwound
+unwound-length w zero words = refl
+unwound-length w (suc d) words =
+    picked (eqb (top words) w) (popped-length words) (unwound-length w d (popped words) ∙ popped-length words)
+  where
+    picked : (test : Bool) → length (popped words) ≡ length words → length (unwound w d (popped words)) ≡ length words
+        → length (cond test (popped words) (unwound w d (popped words))) ≡ length words
+    picked true e f = e
+    picked false e f = f
 
 pub gathered-length : (roll : List ℕ) (count : ℕ) (words : List ℕ) → length (gatheredFrom roll count words) ≡ length words
 unfolding gatheredFrom
@@ -80,6 +92,7 @@ advanced-length table env words (latch a b) =
     popped-length (cond (ltb (value table env a) latchPlaces) (set words (latchesAt + value table env a) (value table env b)) words)
     ∙ latched-length words (ltb (value table env a) latchPlaces) (latchesAt + value table env a) (value table env b)
 advanced-length table env words (collective k) = refl
+advanced-length table env words leave = unwound-length (nearestLoop table (top words)) (depth words) words
 
 -- the words below the depth
 
@@ -98,6 +111,18 @@ unfolding pushed
 pushed-below words n j h =
     getD-set-other (set words (stackAt + depth words) n) depthAt j (depth words + 1) 0 (omega arith)
     ∙ getD-set-other words (stackAt + depth words) j n 0 (omega arith)
+
+pub unwound-below : (w d : ℕ) (words : List ℕ) (j : ℕ) → j < depthAt → getD (unwound w d words) j 0 ≡ getD words j 0
+unfolding unwound
+unwound-below w zero words j h = refl
+unwound-below w (suc d) words j h =
+    picked (eqb (top words) w) (popped-below words j h) (unwound-below w d (popped words) j h ∙ popped-below words j h)
+  where
+    picked : (test : Bool) → getD (popped words) j 0 ≡ getD words j 0
+        → getD (unwound w d (popped words)) j 0 ≡ getD words j 0
+        → getD (cond test (popped words) (unwound w d (popped words))) j 0 ≡ getD words j 0
+    picked true e f = e
+    picked false e f = f
 
 -- a store below the depth keeps depth and entries
 
@@ -228,6 +253,26 @@ module _ (words : List ℕ) (sized : length words ≡ processWords) where
       let rest : stackOf (pushed words n) (depth words) ≡ stackOf words (depth words) =
       stackOf-kept (pushed words n) words (depth words) (pushed-entry words sized n) in
       ap (stackOf (pushed words n)) e ∙ cc
+
+-- a stack, top first, without its entries down to and including the first that is w
+abbrev pub droppedTo : ℕ → List ℕ → List ℕ
+droppedTo w [] = []
+droppedTo w (n ∷ entries) = cond (eqb n w) entries (droppedTo w entries)
+
+pub stack-unwound : (w d : ℕ) (words : List ℕ) → length words ≡ processWords → depth words ≡ d
+    → stack (unwound w d words) ≡ droppedTo w (stack words)
+unfolding unwound
+stack-unwound w zero words sized e = rw e
+stack-unwound w (suc d) words sized e =
+    let less : depth (popped words) ≡ d = omega (arith, popped-depth words sized) in
+    picked (eqb (top words) w) (stack-unwound w d (popped words) (popped-length words ∙ sized) less)
+    ∙ sym (ap (droppedTo w) (stack-top words sized (omega arith) ∙ ap (λ s. top words ∷ s) (sym (stack-popped words sized))))
+  where
+    picked : (test : Bool) → stack (unwound w d (popped words)) ≡ droppedTo w (stack (popped words))
+        → stack (cond test (popped words) (unwound w d (popped words)))
+        ≡ cond test (stack (popped words)) (droppedTo w (stack (popped words)))
+    picked true f = refl
+    picked false f = f
 
 -- what a process takes away from a collective leaves its stack alone
 

@@ -1,34 +1,37 @@
--- A process's step, seen in its view: a statement without effect leaves the view, any other but a collective takes it one
+-- A process's step, seen in its view: a statement that is not visible leaves the view, any other but a collective takes it one
 -- step on.
 use mathlib.Core.Bool.{Bool, true, false, cond, not, _&&_, _||_}
-use mathlib.Core.List.{List, _∷_}
+use mathlib.Core.List.{List, [], _∷_}
 use mathlib.Core.Path.{_≡_, refl, sym, _∙_, ap, subst}
-use mathlib.Core.Logic.{⊎-elim}
+use mathlib.Core.Logic.{inl, inr, ⊎-elim}
 use Prim.Native.Nat.{ℕ, _+_, _-_, _≤_, _<_}
 use native.Mathlib.Omega.{arith}
 use lib.Dec.{ltb, eqb}
 use lib.ListN.{length, set, length-set}
-use borrow.Author.Tests.{lt-ltb, ltb-true}
+use borrow.Author.Tests.{lt-ltb, ltb-true, ne-eqb}
 use Rattle.rules.specs.Acceptance.{ruleOf, bodyFlagged}
 use Rattle.rules.specs.Evaluation.{Environment, value}
-use Rattle.rules.specs.Judgement.{single, effect, effectOf}
+use Rattle.rules.specs.Judgement.{single, effect, effectOf, leftLocally}
 use Rattle.rules.specs.Process.{variablePlaces, latchPlaces, mostProcesses, environment, latchesAt, depthAt, stackPlaces, processWords}
-use Rattle.rules.specs.Process.{depth, top, popped, replaced, pushed, advanced, needsPlace}
-use Rattle.rules.specs.Table.{variables, flagged, body, effectFlag, procedures, statementAt}
-use Rattle.rules.specs.Table.{Statement, nothing, assign, sequence, branch, loop, call, latch, collective}
-use Rattle.rules.specs.WellFormed.{statementFits, expressionPart}
+use Rattle.rules.specs.Process.{depth, top, popped, replaced, pushed, unwound, advanced, needsPlace}
+use Rattle.rules.specs.Table.{variables, flagged, body, effectFlag, procedures, statementAt, isLeave}
+use Rattle.rules.specs.Table.{Statement, nothing, assign, sequence, branch, loop, call, latch, collective, leave}
+use Rattle.rules.specs.WellFormed.{statementFits, expressionPart, openParts, nearestLoop}
 use Rattle.rules.proofs.AnswerLaws.{both-left, both-true}
 use Rattle.rules.proofs.ChoiceLaws.{bool-cases}
-use Rattle.rules.proofs.Formed.{Formed}
+use Rattle.rules.proofs.Formed.{Formed, Enclosed}
 use Rattle.rules.proofs.Judged.{Judged}
+use Rattle.rules.proofs.LoopLaws.{Inside, nearest-loop}
 use Rattle.rules.proofs.SingleLaws.{single-value}
 use Rattle.rules.proofs.StackLaws.{stack, stackOf, stackOf-kept, stack-top, stack-popped, stack-replaced, stack-pushed}
-use Rattle.rules.proofs.StackLaws.{set-depth, set-entry, replaced-length, replaced-depth}
+use Rattle.rules.proofs.StackLaws.{set-depth, set-entry, replaced-length, replaced-depth, droppedTo, unwound-below, stack-unwound}
 use Rattle.rules.proofs.ValueLaws.{effect-at}
-use Rattle.rules.proofs.View.{View, viewOf, adding, loud, withPending, withVariable}
+use Rattle.rules.proofs.View.{View, viewOf, visible, visible-effect, adding, loud, withPending, withVariable}
 use Rattle.rules.proofs.View.{viewAdvanced, viewStepOn, Reached, reached-step}
 use Rattle.rules.proofs.ViewLaws.{SameShown, view-kept, popped-shown, replaced-shown, pushed-shown, set-high-shown}
-use Rattle.rules.proofs.ViewLaws.{set-local-shown, shown-through, assigned-view}
+use Rattle.rules.proofs.ViewLaws.{set-local-shown, low-shown, shown-through, assigned-view}
+use Rattle.rules.proofs.VisibleLaws.{denied, visible-plain, visible-procedure, quiet-part, quiet-body, leave-quiet}
+use Rattle.rules.proofs.VisibleLaws.{leave-loud, dropped-quiet, dropped-loud, branch-single}
 
 -- the entries below the top, after a store below the stack
 rest-set : (words : List ℕ) (a v : ℕ) → a < depthAt
@@ -36,15 +39,6 @@ rest-set : (words : List ℕ) (a v : ℕ) → a < depthAt
 rest-set words a v l =
     ap (λ d. stackOf (set words a v) (d - 1)) (set-depth words a v l)
     ∙ stackOf-kept (set words a v) words (depth words - 1) (λ i h. set-entry words a v i l)
-
--- two tests of which neither holds
-neither-left : (s t : Bool) → (s || t) ≡ false → s ≡ false
-neither-left true t e = e
-neither-left false t e = refl
-
-neither-right : (s t : Bool) → (s || t) ≡ false → t ≡ false
-neither-right true t e = let z : _≡_ {A = ℕ} 0 1 = cc in absurd (omega arith)
-neither-right false t e = e
 
 -- a test that holds, of which the first part is denied
 not-or-false : (s t : Bool) → (not s || t) ≡ true → t ≡ false → s ≡ false
@@ -56,35 +50,29 @@ or-denied : (s t : Bool) → (not s || t) ≡ true → s ≡ true → t ≡ true
 or-denied true t e f = e
 or-denied false t e f = let z : _≡_ {A = ℕ} 0 1 = cc in absurd (omega arith)
 
-loop-single : (s b : Bool) → (s || not b) ≡ true → b ≡ true → s ≡ true
-loop-single true b r e = refl
-loop-single false true r e = r
-loop-single false false r e = e
+loop-single : (s l b : Bool) → ((s && not l) || not b) ≡ true → b ≡ true → s ≡ true
+loop-single true l b r e = refl
+loop-single false l true r e = r
+loop-single false l false r e = e
 
-branch-single : (s b c : Bool) → (s || (not b && not c)) ≡ true → (b || c) ≡ true → s ≡ true
-branch-single true b c r e = refl
-branch-single false true c r e = r
-branch-single false false true r e = r
-branch-single false false false r e = e
-
--- the body of a procedure without the flag has no effect
-unflagged-body : (table : List ℕ) (judged : Judged table) (p : ℕ) → p < procedures table → effectFlag table p ≡ false
-    → effect table (body table p) ≡ false
+-- the body of a procedure without the flag is not visible
+unflagged-body : (table : List ℕ) (formed : Formed table) (judged : Judged table) (p : ℕ) → p < procedures table
+    → effectFlag table p ≡ false → visible table (body table p) ≡ false
 unfolding bodyFlagged
-unflagged-body table judged p l f =
-    not-or-false (effect table (body table p)) (effectFlag table p) (judged .body-flagged p l) f
+unflagged-body table formed judged p l f =
+    denied (visible table (body table p)) (effect table (body table p)) (visible-procedure table formed p l)
+    (not-or-false (effect table (body table p)) (effectFlag table p) (judged .body-flagged p l) f)
 
-module _ (table : List ℕ) (formed : Formed table) (judged : Judged table) (words : List ℕ) (own count : ℕ) (few : count ≤ mostProcesses)
-    (sized : length words ≡ processWords) (some : 0 < depth words) (most : depth words ≤ stackPlaces) where
+module _ (table : List ℕ) (formed : Formed table) (enclosed : Enclosed table) (judged : Judged table) (words : List ℕ)
+    (own count : ℕ) (few : count ≤ mostProcesses)
+    (sized : length words ≡ processWords) (some : 0 < depth words) (most : depth words ≤ stackPlaces)
+    (inside : Inside table (top words) (stackOf words (depth words - 1))) where
   -- the entries below the top
   abbrev rest : List ℕ
   rest = stackOf words (depth words - 1)
 
   abbrev env : Environment
   env = environment words own count
-
-  adding-quiet : (n : ℕ) (entries : List ℕ) → effect table n ≡ false → adding table n entries ≡ entries
-  adding-quiet n entries e = simp e
 
   -- a popped stack shows its rest, after a store that is not shown
   popped-view : (a v : ℕ) → a < depthAt → SameShown table (set words a v) words
@@ -134,40 +122,65 @@ module _ (table : List ℕ) (formed : Formed table) (judged : Judged table) (wor
       (λ (e : ltb a latchPlaces ≡ false). simp e plain-popped-view)
       (bool-cases (ltb a latchPlaces))
 
-  -- a statement without effect
-  quiet-view : (s : Statement) → statementFits table (top words) s ≡ true → effect table (top words) ≡ false
-      → effectOf table (effect table) s ≡ false → (needsPlace table env s ≡ true → depth words < stackPlaces)
+  -- a leave takes off what lies above its while, and the while
+  leave-view : statementAt table (top words) ≡ leave
+      → viewOf table (unwound (nearestLoop table (top words)) (depth words) words)
+      ≡ withPending (viewOf table words) (loud table (droppedTo (nearestLoop table (top words)) rest))
+  leave-view s =
+      let w = nearestLoop table (top words) in
+      let (a, b, t, o) = nearest-loop table formed (top words) (enclosed (top words) s) in
+      let other : eqb (top words) w ≡ false = ne-eqb (top words) w (λ e. unlike a b (sym s ∙ (ap (statementAt table) e ∙ t))) in
+      let first : droppedTo w (top words ∷ rest) ≡ droppedTo w rest = simp other in
+      view-kept table (unwound w (depth words) words) words (loud table (droppedTo w rest))
+      (low-shown table formed words (unwound w (depth words) words) (λ j l. unwound-below w (depth words) words j (omega arith)))
+      (ap (loud table)
+      (stack-unwound w (depth words) words sized refl ∙ (ap (droppedTo w) (stack-top words sized some) ∙ first)))
+    where
+      unlike : (a b : ℕ) → leave ≡ loop a b → ⊥
+      unlike a b e = let z : _≡_ {A = ℕ} 0 1 = cc in omega arith
+
+  -- a statement that is not visible
+  quiet-view : (s : Statement) → statementAt table (top words) ≡ s → statementFits table (top words) s ≡ true
+      → visible table (top words) ≡ false → effectOf table (effect table) s ≡ false
+      → (needsPlace table env s ≡ true → depth words < stackPlaces)
       → viewOf table (advanced table env words s) ≡ withPending (viewOf table words) (loud table rest)
-  unfolding statementFits effectOf needsPlace advanced
-  quiet-view nothing h q e room = plain-popped-view
-  quiet-view (assign a b) h q e room =
+  unfolding statementFits effectOf needsPlace advanced openParts
+  quiet-view nothing s h q e room = plain-popped-view
+  quiet-view (assign a b) s h q e room =
       let l : a < variablePlaces =
       omega (arith, ltb-true a (variables table) (both-left (ltb a (variables table)) (expressionPart table (top words) b) h), formed .variables-high) in
       popped-view a (value table env b) (omega arith) (set-local-shown table formed words a (value table env b) (simp e) l)
-  quiet-view (sequence a b) h q e room =
+  quiet-view (sequence a b) s h q e room =
       sequence-view a b (room refl)
-      ∙ simp (neither-left (effect table a) (effect table b) e, neither-right (effect table a) (effect table b) e)
-  quiet-view (branch a b c) h q e room =
+      ∙ simp (quiet-part table formed (top words) a (rw s (inl refl)) q, quiet-part table formed (top words) b (rw s (inr (inl refl))) q)
+  quiet-view (branch a b c) s h q e room =
       ⊎-elim
       (λ (t : eqb (value table env a) 0 ≡ true).
-      simp t (replaced-view c ∙ simp (neither-right (effect table b) (effect table c) e)))
+      simp t (replaced-view c ∙ simp (quiet-part table formed (top words) c (rw s (inr (inl refl))) q)))
       (λ (t : eqb (value table env a) 0 ≡ false).
-      simp t (replaced-view b ∙ simp (neither-left (effect table b) (effect table c) e)))
+      simp t (replaced-view b ∙ simp (quiet-part table formed (top words) b (rw s (inl refl)) q)))
       (bool-cases (eqb (value table env a) 0))
-  quiet-view (loop a b) h q e room =
+  quiet-view (loop a b) s h q e room =
       ⊎-elim
       (λ (t : eqb (value table env a) 0 ≡ true). simp t plain-popped-view)
-      (λ (t : eqb (value table env a) 0 ≡ false). simp t (pushed-view b (room (simp t)) ∙ simp (q, e)))
+      (λ (t : eqb (value table env a) 0 ≡ false).
+      simp t (pushed-view b (room (simp t)) ∙ simp (q, quiet-body table formed (top words) a b s q)))
       (bool-cases (eqb (value table env a) 0))
-  quiet-view (call p) h q e room =
-      replaced-view (body table p) ∙ simp (unflagged-body table judged p (ltb-true p (procedures table) h) e)
-  quiet-view (latch a b) h q e room = latch-view (value table env a) (value table env b)
-  quiet-view (collective k) h q e room = let z : _≡_ {A = ℕ} 0 1 = cc in absurd (omega arith)
+  quiet-view (call p) s h q e room =
+      replaced-view (body table p) ∙ simp (unflagged-body table formed judged p (ltb-true p (procedures table) h) e)
+  quiet-view (latch a b) s h q e room = latch-view (value table env a) (value table env b)
+  quiet-view (collective k) s h q e room = let z : _≡_ {A = ℕ} 0 1 = cc in absurd (omega arith)
+  quiet-view leave s h q e room =
+      let (a, b, t, o) = nearest-loop table formed (top words) (enclosed (top words) s) in
+      leave-view s
+      ∙ ap (withPending (viewOf table words))
+      (dropped-quiet table formed (nearestLoop table (top words)) a b t (leave-quiet table formed (top words) s q) rest
+      (inside (enclosed (top words) s)))
 
   abbrev seen : View
   seen = viewOf table words
 
-  loop-view : (a b : ℕ) → (not (eqb (value table env a) 0) ≡ true → depth words < stackPlaces) → effect table (top words) ≡ true
+  loop-view : (a b : ℕ) → (not (eqb (value table env a) 0) ≡ true → depth words < stackPlaces) → visible table (top words) ≡ true
       → viewOf table (cond (eqb (value table env a) 0) (popped words) (pushed words b))
       ≡ withPending seen (cond (eqb (value table env a) 0) (loud table rest) (adding table b (top words ∷ loud table rest)))
   loop-view a b room q =
@@ -187,31 +200,47 @@ module _ (table : List ℕ) (formed : Formed table) (judged : Judged table) (wor
       (stack-popped (set words a v) (length-set words a v ∙ sized)
       ∙ rest-set words a v (omega (arith, formed .variables-high))))
 
-  -- a statement with an effect
-  loud-view : (s : Statement) → statementFits table (top words) s ≡ true → effect table (top words) ≡ true
-      → effectOf table (effect table) s ≡ true → ruleOf table s .holds ≡ true
+  -- a visible statement that is no leave and has no part in its while has an effect
+  plainly : (s : Statement) → statementAt table (top words) ≡ s → visible table (top words) ≡ true → isLeave s ≡ false
+      → openParts s ≡ [] → effectOf table (effect table) s ≡ true
+  plainly s e v f none =
+      sym (ap (effectOf table (effect table)) e)
+      ∙ (sym (effect-at table formed (top words))
+      ∙ visible-plain table formed (top words) (ap isLeave e ∙ f) (ap openParts e ∙ none) v)
+
+  -- a visible statement
+  loud-view : (s : Statement) → statementAt table (top words) ≡ s → statementFits table (top words) s ≡ true
+      → visible table (top words) ≡ true → ruleOf table s .holds ≡ true
       → (needsPlace table env s ≡ true → depth words < stackPlaces)
       → viewOf table (advanced table env words s) ≡ viewAdvanced table count seen (top words) (loud table rest) s
-  unfolding statementFits effectOf needsPlace advanced ruleOf viewAdvanced
-  loud-view nothing h q e r room = let z : _≡_ {A = ℕ} 0 1 = cc in absurd (omega arith)
-  loud-view (assign a b) h q e r room =
+  unfolding statementFits effectOf needsPlace advanced ruleOf viewAdvanced openParts
+  loud-view nothing s h q r room = plain-popped-view
+  loud-view (assign a b) s h q r room =
+      let e : flagged table a ≡ true = plainly (assign a b) s q refl refl in
       let l : a < variables table =
       ltb-true a (variables table) (both-left (ltb a (variables table)) (expressionPart table (top words) b) h) in
       assign-view a (value table env b) e l
       ∙ ap (λ x. withVariable seen a x (loud table rest))
       (single-value table formed words own count few b (or-denied (flagged table a) (single table b) r e))
-  loud-view (sequence a b) h q e r room = sequence-view a b (room refl)
-  loud-view (branch a b c) h q e r room =
+  loud-view (sequence a b) s h q r room = sequence-view a b (room refl)
+  loud-view (branch a b c) s h q r room =
       replaced-view (cond (eqb (value table env a) 0) c b)
       ∙ ap (λ x. withPending seen (adding table (cond (eqb x 0) c b) (loud table rest)))
-      (single-value table formed words own count few a (branch-single (single table a) (effect table b) (effect table c) r e))
-  loud-view (loop a b) h q e r room =
+      (single-value table formed words own count few a (branch-single table formed judged (top words) a b c s q))
+  loud-view (loop a b) s h q r room =
       loop-view a b room q
       ∙ ap (λ x. withPending seen (cond (eqb x 0) (loud table rest) (adding table b (top words ∷ loud table rest))))
-      (single-value table formed words own count few a (loop-single (single table a) (effect table b) r e))
-  loud-view (call p) h q e r room = replaced-view (body table p)
-  loud-view (latch a b) h q e r room = let z : _≡_ {A = ℕ} 0 1 = cc in absurd (omega arith)
-  loud-view (collective k) h q e r room = refl
+      (single-value table formed words own count few a
+      (loop-single (single table a) (leftLocally table b) (effect table b) r (plainly (loop a b) s q refl refl)))
+  loud-view (call p) s h q r room = replaced-view (body table p)
+  loud-view (latch a b) s h q r room = latch-view (value table env a) (value table env b)
+  loud-view (collective k) s h q r room = refl
+  loud-view leave s h q r room =
+      let w = nearestLoop table (top words) in
+      leave-view s
+      ∙ ap (withPending seen)
+      (dropped-loud table formed w (visible-effect table w (leave-loud table formed (top words) s q)) rest
+      (inside (enclosed (top words) s)))
 
   -- a step of a process is at most a step of its view
   pub reached-advanced : (g : View) → (needsPlace table env (statementAt table (top words)) ≡ true → depth words < stackPlaces)
@@ -220,22 +249,23 @@ module _ (table : List ℕ) (formed : Formed table) (judged : Judged table) (wor
   unfolding viewStepOn
   reached-advanced g room reached =
       ⊎-elim
-      (λ (e : effect table (top words) ≡ true).
+      (λ (e : visible table (top words) ≡ true).
       let pending : loud table (stack words) ≡ top words ∷ loud table rest =
       ap (loud table) (stack-top words sized some) ∙ simp e in
       subst (Reached table count g)
       (ap (viewStepOn table count seen) pending
       ∙ sym
-      (loud-view (statementAt table (top words)) (formed .statement-fits (top words)) e
-      (sym (effect-at table formed (top words)) ∙ e) (judged .rule-holds (top words)) room))
+      (loud-view (statementAt table (top words)) refl (formed .statement-fits (top words)) e (judged .rule-holds (top words)) room))
       (reached-step table count g seen reached))
-      (λ (e : effect table (top words) ≡ false).
+      (λ (e : visible table (top words) ≡ false).
       let pending : loud table (stack words) ≡ loud table rest =
       ap (loud table) (stack-top words sized some) ∙ simp e in
       subst (Reached table count g)
       (sym
-      (quiet-view (statementAt table (top words)) (formed .statement-fits (top words)) e
-      (sym (effect-at table formed (top words)) ∙ e) room
+      (quiet-view (statementAt table (top words)) refl (formed .statement-fits (top words)) e
+      (sym (effect-at table formed (top words))
+      ∙ denied (effect table (top words)) (visible table (top words)) (visible-effect table (top words)) e)
+      room
       ∙ ap (withPending seen) (sym pending)))
       reached)
-      (bool-cases (effect table (top words)))
+      (bool-cases (visible table (top words)))

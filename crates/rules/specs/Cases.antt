@@ -2,7 +2,7 @@
 use mathlib.Core.List.{List, [], _∷_, _++_}
 use mathlib.Core.Path.{_≡_, refl}
 use Prim.Native.Nat.{ℕ, zero, suc, _+_, _*_, _/_, _%_, _^_}
-use lib.ListN.{getD, replicate, set, take}
+use lib.ListN.{getD, replicate, set, take, drop}
 use Rattle.rules.specs.declared.Event.{Event}
 use Rattle.rules.specs.declared.Event.the-variants.{Moved, Finished, Arrived, Completed}
 use Rattle.rules.specs.declared.Stepped.{Stepped}
@@ -28,6 +28,7 @@ use Rattle.rules.specs.Run
 use Rattle.rules.specs.Run.{Team, answers, afterTurns, startTeam}
 use Rattle.rules.specs.Start
 use Rattle.rules.specs.Step
+use Rattle.rules.specs.Step.{stepVerdict}
 use Rattle.rules.specs.Table
 use Rattle.rules.specs.WellFormed
 
@@ -53,7 +54,7 @@ answer event team = Taken (record { event = event; team = team })
 
 -- opens every definition of the rules, so that a case computes
 opened : ℕ
-unfolding bytes verdict startOn run answer Choice.firstFailing Choice.allBelow Below.below Below.atNode Table.wordAt Table.edition Table.variables Table.procedures Table.nodes Table.flagged Table.procedureWord Table.body Table.effectFlag Table.mainBody Table.unpacked Table.nodeAt Table.expressionOf Table.statementOf Table.expressionAt Table.statementAt WellFormed.headerFits WellFormed.procedureFits WellFormed.isExpression WellFormed.isStatement WellFormed.kindKnown WellFormed.namedFields WellFormed.unnamedZero WellFormed.expressionPart WellFormed.statementPart WellFormed.expressionFits WellFormed.collectiveFits WellFormed.statementFits WellFormed.nodeFits WellFormed.expressionParts WellFormed.collectiveParts WellFormed.statementParts WellFormed.partsAt WellFormed.joined WellFormed.uses WellFormed.occurrences WellFormed.usedOnce WellFormed.someOf WellFormed.inTree WellFormed.calledBelow WellFormed.wellFormed Judgement.singleOf Judgement.single Judgement.effectOf Judgement.effect Acceptance.ruleOf Acceptance.bodyFlagged Acceptance.judged Acceptance.checked Acceptance.checkedScratch Evaluation.applied Evaluation.valueOf Evaluation.value Process.processAt Process.withProcess Process.eachProcess Process.depth Process.top Process.popped Process.replaced Process.pushed Process.advanced Process.needsPlace Arrivals.statusAt Arrivals.arrivalNode Arrivals.arrivalValue Arrivals.arrivalSource Arrivals.withArrival Arrivals.eachArrival Arrivals.teamStatus Arrivals.allAtOneNode Collective.arrivalOf Collective.gatheredFrom Collective.received Collective.completedState Collective.releasedRoll Start.startSize Start.startVerdict Start.startWords Start.startProcess Start.startState Start.startRoll Start.startedBy Start.started Start.latchesOf Step.processesIn Step.stackFits Step.fieldsZero Step.lackedZero Step.waitFits Step.recordFits Step.processFits Step.placeLacked Step.stepVerdict Step.moved Step.completed Step.arrivedAt Step.stepRunning Step.stepTaken Step.steppedBy Step.stepped Run.afterTurns Run.answers Run.collectives
+unfolding bytes verdict startOn run answer Choice.firstFailing Choice.allBelow Below.below Below.atNode Table.wordAt Table.edition Table.variables Table.procedures Table.nodes Table.flagged Table.procedureWord Table.body Table.effectFlag Table.mainBody Table.unpacked Table.nodeAt Table.expressionOf Table.statementOf Table.expressionAt Table.statementAt WellFormed.headerFits WellFormed.procedureFits WellFormed.isExpression WellFormed.isStatement WellFormed.kindKnown WellFormed.namedFields WellFormed.unnamedZero WellFormed.expressionPart WellFormed.statementPart WellFormed.expressionFits WellFormed.collectiveFits WellFormed.statementFits WellFormed.nodeFits WellFormed.expressionParts WellFormed.collectiveParts WellFormed.statementParts WellFormed.partsAt WellFormed.joined WellFormed.uses WellFormed.occurrences WellFormed.usedOnce WellFormed.someOf WellFormed.inTree WellFormed.calledBelow WellFormed.openParts WellFormed.openly WellFormed.loopAround WellFormed.nearestLoop WellFormed.leaveEnclosed WellFormed.wellBuilt WellFormed.wellFormed Judgement.singleOf Judgement.single Judgement.effectOf Judgement.effect Judgement.holdsLeave Judgement.localIf Judgement.leftLocally Acceptance.ruleOf Acceptance.bodyFlagged Acceptance.judged Acceptance.checked Acceptance.checkedScratch Evaluation.applied Evaluation.valueOf Evaluation.value Process.processAt Process.withProcess Process.eachProcess Process.depth Process.top Process.popped Process.replaced Process.pushed Process.unwound Process.advanced Process.needsPlace Arrivals.statusAt Arrivals.arrivalNode Arrivals.arrivalValue Arrivals.arrivalSource Arrivals.withArrival Arrivals.eachArrival Arrivals.teamStatus Arrivals.allAtOneNode Collective.arrivalOf Collective.gatheredFrom Collective.received Collective.completedState Collective.releasedRoll Start.startSize Start.startVerdict Start.startWords Start.startProcess Start.startState Start.startRoll Start.startedBy Start.started Start.latchesOf Step.processesIn Step.stackFits Step.fieldsZero Step.lackedZero Step.waitFits Step.leaveFits Step.recordFits Step.processFits Step.placeLacked Step.stepVerdict Step.moved Step.completed Step.arrivedAt Step.stepRunning Step.stepTaken Step.steppedBy Step.stepped Run.afterTurns Run.answers Run.collectives
 opened = 0
 
 -- T1: if own number then barrier else nothing
@@ -188,3 +189,71 @@ division-table = 0x10420400 ∷ 0 ∷ 0x03800000 ∷ 9 ∷ 0 ∷ 0x48000200 ∷ 
 divisor-0 : value (bytes division-table) sevens 2 ≡ 0
 unfolding opened division-table sevens
 divisor-0 = refl
+
+-- leaves: "ends the nearest while around it in the same procedure"
+
+-- while 1, leave; then a leave, which has no while around it
+loose-leave : List ℕ
+loose-leave =
+    0x10420500 ∷ 0 ∷ 0x04000000
+    ∷ 0x00000001 ∷ 0xD0000000 ∷ 0xA0000200 ∷ 0xD0000000 ∷ 0x90080600 ∷ []
+
+loose-leave-refused : verdict loose-leave ≡ refused 26 3
+unfolding opened loose-leave
+loose-leave-refused = refl
+
+-- while 1: if own door 0 then leave else nothing; then a barrier
+stocktake : List ℕ
+stocktake =
+    0x10420900 ∷ 0 ∷ 0x08800000
+    ∷ 0x00000001 ∷ 0x00000000 ∷ 0x20040000 ∷ 0xD0000000 ∷ 0x80000000 ∷ 0x98080604 ∷ 0xB8000000 ∷ 0x90140C00 ∷ 0xA0000E00 ∷ []
+
+-- "Such a loop may hold no global effect."
+stocktake-refused : verdict stocktake ≡ refused 16 8
+unfolding opened stocktake
+stocktake-refused = refl
+
+-- left under a single condition, slot 0 of the roster, it may
+stocktake-single : verdict (set stocktake 5 0x28040000) ≡ Accepted
+unfolding opened stocktake
+stocktake-single = refl
+
+-- the same with nothing in the barrier's place
+search-loop : List ℕ
+search-loop = set stocktake 9 0x80000000
+
+search-loop-accepted : verdict search-loop ≡ Accepted
+unfolding opened stocktake search-loop
+search-loop-accepted = refl
+
+-- one process whose door 0 holds 1
+open-door : List ℕ
+open-door = 0 ∷ 1 ∷ replicate 11 0
+
+search-run : run search-loop 1 open-door (0 ∷ 0 ∷ 0 ∷ 0 ∷ [])
+    ≡ answer Moved Going ∷ answer Moved Going ∷ answer Moved Going ∷ answer Finished Done ∷ []
+unfolding opened stocktake search-loop open-door
+search-run = refl
+
+-- depth and lowest stack places after so many turns of that process
+stack-after : List ℕ → List ℕ
+stack-after turns = take 5 (drop 72 (afterTurns (bytes search-loop) (startOn search-loop 1 open-door) turns .state))
+
+-- the leave, 3, lies above the rest of the body, 6, and the while, 8
+leave-on-top : stack-after (0 ∷ 0 ∷ 0 ∷ []) ≡ 3 ∷ 8 ∷ 6 ∷ 3 ∷ 0 ∷ []
+unfolding opened stocktake search-loop open-door stack-after
+leave-on-top = refl
+
+-- "the stack is popped down to and including the highest entry of that while"
+leave-taken : stack-after (0 ∷ 0 ∷ 0 ∷ 0 ∷ []) ≡ 0 ∷ 0 ∷ 0 ∷ 0 ∷ 0 ∷ []
+unfolding opened stocktake search-loop open-door stack-after
+leave-taken = refl
+
+-- "A made-up stack with a leave on top and that while not below is number 23."
+leave-unfounded : stepVerdict (bytes search-loop)
+    (set (afterTurns (bytes search-loop) (startOn search-loop 1 open-door) (0 ∷ 0 ∷ 0 ∷ []) .state) 73 4)
+    (replicate 4 0)
+    0
+    ≡ refused 23 0
+unfolding opened stocktake search-loop open-door
+leave-unfounded = refl

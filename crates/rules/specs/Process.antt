@@ -6,7 +6,8 @@ use lib.Dec.{ltb, eqb}
 use lib.ListN.{getD, set, take, drop}
 use Rattle.rules.specs.Evaluation.{Environment, value, doors}
 use Rattle.rules.specs.Table.{body}
-use Rattle.rules.specs.Table.{Statement, nothing, assign, sequence, branch, loop, call, latch, collective}
+use Rattle.rules.specs.Table.{Statement, nothing, assign, sequence, branch, loop, call, latch, collective, leave}
+use Rattle.rules.specs.WellFormed.{nearestLoop}
 
 -- "In lent words that is 329: 32, 16, 12, 12, depth, 256 stack places, first entry lowest." Variables stand at 0. The code's
 -- constants are held to these names in src/layout.rt.
@@ -90,9 +91,15 @@ replaced words n = set words (depthAt + depth words) n
 unfoldable pub pushed : List ℕ → ℕ → List ℕ
 pushed words n = set (set words (stackAt + depth words) n) depthAt (depth words + 1)
 
+-- "the stack is popped down to and including the highest entry of that while": entries go until the first that is node w has
+-- gone, at most so many
+unfoldable pub unwound : ℕ → ℕ → List ℕ → List ℕ
+unwound w zero words = words
+unwound w (suc d) words = cond (eqb (top words) w) (popped words) (unwound w d (popped words))
+
 -- "Kinds 16, 17, 22 do their work and go. 18 becomes A above B. 19 becomes its branch. 20 with a zero condition goes, otherwise
 -- its body lies above it. 21 becomes the procedure's body." A latch number "from 12 on nothing is changed". A collective is
--- left to Collective.antt.
+-- left to Collective.antt. A leave "ends the nearest while around it".
 unfoldable pub advanced : List ℕ → Environment → List ℕ → Statement → List ℕ
 advanced table env words nothing = popped words
 advanced table env words (assign a b) = popped (set words a (value table env b))
@@ -104,6 +111,7 @@ advanced table env words (latch a b) =
     popped
     (cond (ltb (value table env a) latchPlaces) (set words (latchesAt + value table env a) (value table env b)) words)
 advanced table env words (collective k) = words
+advanced table env words leave = unwound (nearestLoop table (top words)) (depth words) words
 
 -- 24's "if one is needed": kind 18, and kind 20 with a condition that is not zero
 unfoldable pub needsPlace : List ℕ → Environment → Statement → Bool
@@ -115,3 +123,4 @@ needsPlace table env (loop a b) = not (eqb (value table env a) 0)
 needsPlace table env (call p) = false
 needsPlace table env (latch a b) = false
 needsPlace table env (collective k) = false
+needsPlace table env leave = false

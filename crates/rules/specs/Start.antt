@@ -1,4 +1,4 @@
--- A start: questions 2 to 12 and 18 to 21, the words that it lays out, and the view of a process's latches.
+-- A start: questions 2 to 12, 26 and 18 to 21, the words that it lays out, and the view of a process's latches.
 use mathlib.Core.Bool.{cond, _&&_}
 use mathlib.Core.List.{List, [], _∷_, _++_}
 use Prim.Native.Nat.{ℕ, _+_, _-_, _*_, _/_, _%_}

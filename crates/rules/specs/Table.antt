@@ -1,5 +1,5 @@
 -- "Words of a table": words out of bytes, header, procedures, nodes, and the two decoded views of a node.
-use mathlib.Core.Bool.{Bool}
+use mathlib.Core.Bool.{Bool, true, false}
 use mathlib.Core.List.{List, [], _∷_}
 use Prim.Native.Nat.{ℕ, _+_, _-_, _*_, _/_, _%_, _^_}
 use lib.Dec.{eqb}
@@ -57,7 +57,7 @@ abbrev pub firstStatement : ℕ
 firstStatement = 16
 
 abbrev pub lastStatement : ℕ
-lastStatement = 25
+lastStatement = 26
 
 -- kinds 6 to 12
 pub data Operator : Type 0 where
@@ -79,7 +79,8 @@ pub data Collective : Type 0 where
   broadcast : ℕ → ℕ → ℕ → Collective
   exchange : ℕ → Collective
 
--- "Statements", in the order of their kinds 16 to 22, and the collectives; parts are node numbers
+-- "Statements", in the order of their kinds 16 to 22, the collectives, and "New statement kind 26, no fields"; parts are node
+-- numbers
 pub data Statement : Type 0 where
   nothing : Statement
   assign : ℕ → ℕ → Statement
@@ -89,6 +90,7 @@ pub data Statement : Type 0 where
   call : ℕ → Statement
   latch : ℕ → ℕ → Statement
   collective : Collective → Statement
+  leave : Statement
 
 -- the expression that a node is; one that is none reads as the constant 0
 unfoldable pub expressionOf : Node → Expression
@@ -125,6 +127,7 @@ statementOf m =
     ∷ collective barrier
     ∷ collective (broadcast (m .a) (m .b) (m .c))
     ∷ collective (exchange (m .a))
+    ∷ leave
     ∷ [])
     (m .kind - firstStatement)
     nothing
@@ -145,3 +148,16 @@ onCollective (loop a b) meet other = other
 onCollective (call p) meet other = other
 onCollective (latch a b) meet other = other
 onCollective (collective k) meet other = meet k
+onCollective leave meet other = other
+
+-- kind 26
+abbrev pub isLeave : Statement → Bool
+isLeave nothing = false
+isLeave (assign a b) = false
+isLeave (sequence a b) = false
+isLeave (branch a b c) = false
+isLeave (loop a b) = false
+isLeave (call p) = false
+isLeave (latch a b) = false
+isLeave (collective k) = false
+isLeave leave = true

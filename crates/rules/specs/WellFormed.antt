@@ -1,4 +1,4 @@
--- Questions 2 to 12: is the table well formed? They are asked by the checker, a start and a step alike.
+-- Questions 2 to 12 and 26: is the table well formed? They are asked by the checker, a start and a step alike.
 use mathlib.Core.Bool.{Bool, true, false, cond, not, _&&_, _||_}
 use mathlib.Core.List.{List, [], _∷_, _++_}
 use Prim.Native.Nat.{ℕ, zero, suc, _+_, _-_, _*_, _%_, _^_}
@@ -8,13 +8,13 @@ use Rattle.rules.specs.declared.Node.{Node}
 use Rattle.rules.specs.declared.Verdict.{Verdict}
 use Rattle.rules.specs.Answers.{_then_, ask, askEach}
 use Rattle.rules.specs.Below.{atNode}
-use Rattle.rules.specs.Choice.{allBelow}
+use Rattle.rules.specs.Choice.{allBelow, firstFailing}
 use Rattle.rules.specs.Table.{wordAt, edition, variables, procedures, nodes, procedureWord, body, nodeAt}
 use Rattle.rules.specs.Table.{lastExpression, firstStatement, lastStatement}
 use Rattle.rules.specs.Table.{Expression, constant, variable, ownNumber, processCount, door, slot, operation}
-use Rattle.rules.specs.Table.{Statement, nothing, assign, sequence, branch, loop, call, latch, collective}
+use Rattle.rules.specs.Table.{Statement, nothing, assign, sequence, branch, loop, call, latch, collective, leave}
 use Rattle.rules.specs.Table.{Collective, barrier, broadcast, exchange}
-use Rattle.rules.specs.Table.{expressionAt, statementAt}
+use Rattle.rules.specs.Table.{expressionAt, statementAt, isLeave}
 
 -- two words, 16 procedures and 256 nodes
 abbrev pub mostTableBytes : ℕ
@@ -55,7 +55,7 @@ procedureFits table p = eqb (procedureWord table p % 2 ^ 23) 0 && ltb (body tabl
 abbrev pub question6 : List ℕ → Verdict
 question6 table = askEach 6 (procedures table) (procedureFits table)
 
--- 7: "Is the kind known?" Kinds 0 to 12 are expressions, 16 to 25 statements.
+-- 7: "Is the kind known?" Kinds 0 to 12 are expressions, 16 to 26 statements.
 unfoldable pub isExpression : List ℕ → ℕ → Bool
 isExpression table n = leb (nodeAt table n .kind) lastExpression
 
@@ -72,7 +72,7 @@ question7 table = askEach 7 (nodes table) (kindKnown table)
 unfoldable pub namedFields : ℕ → ℕ
 namedFields kind =
     getD
-    (0 ∷ 1 ∷ 0 ∷ 0 ∷ 1 ∷ 1 ∷ 2 ∷ 2 ∷ 2 ∷ 2 ∷ 2 ∷ 2 ∷ 2 ∷ 0 ∷ 0 ∷ 0 ∷ 0 ∷ 2 ∷ 2 ∷ 3 ∷ 2 ∷ 1 ∷ 2 ∷ 0 ∷ 3 ∷ 1 ∷ [])
+    (0 ∷ 1 ∷ 0 ∷ 0 ∷ 1 ∷ 1 ∷ 2 ∷ 2 ∷ 2 ∷ 2 ∷ 2 ∷ 2 ∷ 2 ∷ 0 ∷ 0 ∷ 0 ∷ 0 ∷ 2 ∷ 2 ∷ 3 ∷ 2 ∷ 1 ∷ 2 ∷ 0 ∷ 3 ∷ 1 ∷ 0 ∷ [])
     kind
     0
 
@@ -118,6 +118,7 @@ statementFits table n (loop a b) = expressionPart table n a && statementPart tab
 statementFits table n (call p) = ltb p (procedures table)
 statementFits table n (latch a b) = expressionPart table n a && expressionPart table n b
 statementFits table n (collective k) = collectiveFits table n k
+statementFits table n leave = true
 
 unfoldable pub nodeFits : List ℕ → ℕ → Bool
 nodeFits table n = expressionFits table n (expressionAt table n) && statementFits table n (statementAt table n)
@@ -153,6 +154,7 @@ statementParts (loop a b) = a ∷ b ∷ []
 statementParts (call p) = []
 statementParts (latch a b) = a ∷ b ∷ []
 statementParts (collective k) = collectiveParts k
+statementParts leave = []
 
 unfoldable pub partsAt : List ℕ → ℕ → List ℕ
 partsAt table n = expressionParts (expressionAt table n) ++ statementParts (statementAt table n)
@@ -197,14 +199,54 @@ calledBelow table n (loop a b) = true
 calledBelow table n (call q) = allBelow (λ p. not (inTree table n (body table p)) || ltb q p) (procedures table)
 calledBelow table n (latch a b) = true
 calledBelow table n (collective k) = true
+calledBelow table n leave = true
 
 -- 12: "Does each call name a procedure below its own?"
 abbrev pub question12 : List ℕ → Verdict
 question12 table = askEach 12 (nodes table) (λ n. calledBelow table n (statementAt table n))
 
+-- the parts of a statement that are statements and stand in the same while as it; a while's body stands in that while
+unfoldable pub openParts : Statement → List ℕ
+openParts nothing = []
+openParts (assign a b) = []
+openParts (sequence a b) = a ∷ b ∷ []
+openParts (branch a b c) = b ∷ c ∷ []
+openParts (loop a b) = []
+openParts (call p) = []
+openParts (latch a b) = []
+openParts (collective k) = []
+openParts leave = []
+
+-- whether a test holds of node m, or of a statement that stands "within" it, "not in an inner while"
+unfoldable pub openly : List ℕ → (ℕ → Bool) → ℕ → Bool
+openly table test m = atNode (λ earlier k. test k || someOf earlier (openParts (statementAt table k))) m
+
+-- whether the statement is a while and node n stands "within the while's body, not in an inner while"
+unfoldable pub loopAround : List ℕ → ℕ → Statement → Bool
+loopAround table n nothing = false
+loopAround table n (assign a b) = false
+loopAround table n (sequence a b) = false
+loopAround table n (branch a b c) = false
+loopAround table n (loop a b) = openly table (λ k. eqb k n) b
+loopAround table n (call p) = false
+loopAround table n (latch a b) = false
+loopAround table n (collective k) = false
+loopAround table n leave = false
+
+-- "the nearest while around it in the same procedure". By 11 there is one at most; the number of nodes stands for none.
+unfoldable pub nearestLoop : List ℕ → ℕ → ℕ
+nearestLoop table n = firstFailing (λ w. not (loopAround table n (statementAt table w))) (nodes table)
+
+-- 26: "a leave with no while around it, at its node, asked after 12 by checker, start and turn alike"
+unfoldable pub leaveEnclosed : List ℕ → ℕ → Bool
+leaveEnclosed table n = not (isLeave (statementAt table n)) || ltb (nearestLoop table n) (nodes table)
+
+abbrev pub question26 : List ℕ → Verdict
+question26 table = askEach 26 (nodes table) (leaveEnclosed table)
+
 -- the first of questions 2 to 12 that fails
-unfoldable pub wellFormed : List ℕ → Verdict
-wellFormed table =
+unfoldable pub wellBuilt : List ℕ → Verdict
+wellBuilt table =
     question2 table
     then question3 table
     then question4 table
@@ -216,3 +258,7 @@ wellFormed table =
     then question10 table
     then question11 table
     then question12 table
+
+-- the first of questions 2 to 12 and 26 that fails
+unfoldable pub wellFormed : List ℕ → Verdict
+wellFormed table = wellBuilt table then question26 table

@@ -53,7 +53,7 @@ pub const LAST_EXPRESSION: u32 = 12;
 
 pub const FIRST_STATEMENT: u32 = 16;
 
-pub const LAST_STATEMENT: u32 = 25;
+pub const LAST_STATEMENT: u32 = 26;
 
 fn sizes() -> [usize; 9]
     ensures { λ r. ⌜ r ≡ variablePlaces ∷ gatheredPlaces ∷ doors ∷ latchPlaces ∷ stackPlaces ∷ mostTableBytes ∷ arrivalSize

@@ -16,7 +16,7 @@ use Rattle.table.specs.Marks.{bitAt}
 use Rattle.table.specs.Sized.{Sized}
 use Rattle.visit.specs.Exact.{notedCode}
 use Rattle.visit.specs.Facts.{flagCode, FactsTo}
-use Rattle.visit.specs.Fields.{factsPlane}
+use Rattle.visit.specs.Fields.{factsPlane, planeWords, allPlanes}
 use Rattle.visit.specs.Least.{none, code, failure}
 use Rattle.visit.proofs.FactLaws.{fact-statement}
 use Rattle.visit.proofs.PlaneLaws.{facts-lent, facts-length}
@@ -72,14 +72,14 @@ module _ {table : List ℕ} {header : Header} (filled : Filled table header) {p 
   body-below : body table p < nodes table
   body-below = fits filled .bodies p below
 
-  module _ (planes : List ℕ) (size : length planes ≡ 16) where
+  module _ (planes : List ℕ) (size : length planes ≡ allPlanes) where
     -- the body is a place of the plane that is lent
-    pub body-lent : {n : ℕ} → n ≡ body table p → n < 32 * length (midOf 8 8 planes)
+    pub body-lent : {n : ℕ} → n ≡ body table p → n < 32 * length (midOf planeWords planeWords planes)
     body-lent e =
         omega (arith, e, body-below, filled .sized .nodes-high, ap length (facts-lent planes size), facts-length planes size)
 
     pub marked-effect : {r : Bool} {n : ℕ} → FactsTo table (nodes table) (factsPlane planes) → n ≡ body table p
-        → r ≡ bitAt (midOf 8 8 planes) n
+        → r ≡ bitAt (midOf planeWords planeWords planes) n
         → r ≡ effect table (body table p)
     marked-effect facts e is =
         let here : _ ≡ bitAt (factsPlane planes) (body table p) = rw (facts-lent planes size, e) at is in

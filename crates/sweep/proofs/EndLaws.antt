@@ -24,7 +24,7 @@ use Rattle.table.proofs.UseLaws.{length-withBits}
 use Rattle.table.proofs.OnceLaws.{once-first}
 use Rattle.visit.specs.Least.{none, code, failure, leastBelow, rank, verdictOf}
 use Rattle.visit.specs.Exact.{repeatedCode, nodeBest, nodeMarks}
-use Rattle.visit.specs.Visited.{Quick}
+use Rattle.visit.specs.Quick.{Quick}
 use Rattle.sweep.specs.Swept.{filledVerdict, misused, Swept, failed, clean, nodeCode, bodyCode, bodyBest, bodyMarks}
 use Rattle.sweep.specs.Swept.{unusedBest, SweptTo, AfterNodes, AfterBodies, earlier}
 use Rattle.visit.proofs.LeastLaws.{min-assoc, min-left-comm, least-more, least-high, least-both}

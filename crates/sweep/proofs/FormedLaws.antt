@@ -1,4 +1,4 @@
--- Questions 2 to 17 in the parts that the code asks them in.
+-- The questions in the parts that the code asks them in.
 use mathlib.Core.Bool.{Bool, true, false}
 use mathlib.Core.List.{List}
 use mathlib.Core.Path.{_≡_, _∙_, sym}
@@ -12,8 +12,9 @@ use Rattle.rules.specs.Acceptance.{judged}
 use Rattle.rules.specs.Answers.{refused, _then_}
 use Rattle.rules.specs.Choice.{firstFailing}
 use Rattle.rules.specs.Table.{procedures, nodes, body, statementAt}
-use Rattle.rules.specs.WellFormed.{isStatement, calledBelow, wellFormed}
+use Rattle.rules.specs.WellFormed.{isStatement, calledBelow, leaveEnclosed, wellBuilt, wellFormed}
 use Rattle.rules.specs.WellFormed.{question6, question7, question8, question9, question10, question11, question12}
+use Rattle.rules.specs.WellFormed.{question26}
 use Rattle.rules.proofs.AnswerLaws.{then-first, then-rest, each-passed}
 use Rattle.rules.proofs.ChoiceLaws.{first-none}
 use Rattle.table.specs.declared.Header.{Header}
@@ -30,7 +31,7 @@ use Rattle.sweep.proofs.JudgedLaws.{judged-least}
 -- 2 to 5, 6 to 11, and the rest
 in-parts : (strictly : Bool) (table : List ℕ)
     → asked strictly table ≡ (shapeVerdict table then (filledVerdict table then callsAsked strictly table))
-unfolding asked callsAsked wellFormed shapeVerdict filledVerdict
+unfolding asked callsAsked wellFormed wellBuilt shapeVerdict filledVerdict
 in-parts strictly table = simp then-assoc
 
 module _ (strictly : Bool) (table : List ℕ) where
@@ -69,7 +70,15 @@ module _ {table : List ℕ} {header : Header} (sized : Sized table header) {leas
   pub judged-verdict : (verdictOf least ≡ judged table) × (least ≤ none)
   judged-verdict = rw found (judged-least table (omega (arith, sized .nodes-high)) (omega (arith, sized .procedures-high)))
 
--- 12 to 17 from the first call that fails 12
+-- a table that passes 2 to 12
+pub well-built : {table : List ℕ} {header : Header} → Filled table header → question12 table ≡ Accepted
+    → wellBuilt table ≡ Accepted
+unfolding wellBuilt shapeVerdict filledVerdict
+well-built {table} filled passed =
+    let whole : wellBuilt table ≡ (shapeVerdict table then (filledVerdict table then question12 table)) = simp then-assoc in
+    whole ∙ simp (filled .shaped, filled .passed, passed)
+
+-- 12, 26 and 13 to 17 from the first call that fails 12 and the first leave that fails 26
 module _ {table : List ℕ} {header : Header} (sized : Sized table header) {call : ℕ}
     (found : call ≡ firstFailing (λ n. calledBelow table n (statementAt table n)) (nodes table)) (strictly : Bool) where
   pub refused12 : call < header .nodes → refused 12 call ≡ callsAsked strictly table
@@ -78,18 +87,30 @@ module _ {table : List ℕ} {header : Header} (sized : Sized table header) {call
       let inside : call < nodes table = omega (arith, sized .nodes-read) in
       simp (each-refused 12 (nodes table) (λ n. calledBelow table n (statementAt table n)) call found inside)
 
-  accepted12 : header .nodes ≤ call → question12 table ≡ Accepted
+  pub accepted12 : header .nodes ≤ call → question12 table ≡ Accepted
   accepted12 l =
       let past : nodes table ≤ call = omega (arith, sized .nodes-read) in
       each-accepted 12 (nodes table) (λ n. calledBelow table n (statementAt table n)) call found past
 
-  pub unjudged : header .nodes ≤ call → strictly ≡ false → Accepted ≡ callsAsked strictly table
-  unfolding callsAsked
-  unjudged l e = simp (accepted12 l, e)
+  module _ (past : header .nodes ≤ call) {leave : ℕ} (loose : leave ≡ firstFailing (leaveEnclosed table) (nodes table)) where
+    pub refused26 : leave < header .nodes → refused 26 leave ≡ callsAsked strictly table
+    unfolding callsAsked
+    refused26 l =
+        let inside : leave < nodes table = omega (arith, sized .nodes-read) in
+        simp (accepted12 past, each-refused 26 (nodes table) (leaveEnclosed table) leave loose inside)
 
-  pub judged-next : header .nodes ≤ call → strictly ≡ true → judged table ≡ callsAsked strictly table
-  unfolding callsAsked
-  judged-next l e = simp (accepted12 l, e)
+    accepted26 : header .nodes ≤ leave → question26 table ≡ Accepted
+    accepted26 l =
+        let after : nodes table ≤ leave = omega (arith, sized .nodes-read) in
+        each-accepted 26 (nodes table) (leaveEnclosed table) leave loose after
+
+    pub unjudged : header .nodes ≤ leave → strictly ≡ false → Accepted ≡ callsAsked strictly table
+    unfolding callsAsked
+    unjudged l e = simp (accepted12 past, accepted26 l, e)
+
+    pub judged-next : header .nodes ≤ leave → strictly ≡ true → judged table ≡ callsAsked strictly table
+    unfolding callsAsked
+    judged-next l e = simp (accepted12 past, accepted26 l, e)
 
 -- 6 to 11 from the least refusal
 module _ {table : List ℕ} {first best : ℕ} (uses : Uses table first best) where

@@ -6,7 +6,7 @@ use Prim.Native.Nat.{ℕ, _≤_, _<_, min}
 use native.Mathlib.Omega.{arith}
 use Rattle.rules.specs.Acceptance.{ruleOf, passes, bodyFlagged, judged}
 use Rattle.rules.specs.Table.{procedures, nodes, statementAt}
-use Rattle.rules.specs.Table.{Statement, nothing, assign, sequence, branch, loop, call, latch, collective}
+use Rattle.rules.specs.Table.{Statement, nothing, assign, sequence, branch, loop, call, latch, collective, leave}
 use Rattle.rules.specs.Table.{barrier, broadcast, exchange}
 use Rattle.visit.specs.Facts.{ruleCode, flagCode}
 use Rattle.visit.specs.Least.{none, code, failure, leastBelow, verdictOf}
@@ -39,6 +39,7 @@ module _ (table : List ℕ) (n : ℕ) (few : n < 65536) where
   own-least (collective barrier) = omega arith
   own-least (collective (broadcast a b c)) = omega (arith, high 14 (omega arith) (collective (broadcast a b c)))
   own-least (collective (exchange a)) = omega arith
+  own-least leave = omega arith
 
 module _ (table : List ℕ) (few-nodes : nodes table ≤ 65536) (few-procedures : procedures table ≤ 65536) where
   abbrev test : ℕ → ℕ → Bool

@@ -12,24 +12,27 @@ use borrow.Author.Tests.{ltb-true}
 use borrow.Rule.Slice.PartMut.{putMid}
 use Rattle.rules.specs.Table.{procedures, nodes, body}
 use Rattle.rules.proofs.ChoiceLaws.{bool-cases}
+use Rattle.rules.specs.WellFormed.{wellBuilt}
+use Rattle.rules.specs.declared.Verdict.the-variants.{Accepted}
 use Rattle.calls.specs.Blocks.{Blocks, more}
 use Rattle.calls.specs.Blocks
 use Rattle.calls.proofs.BlockLaws.{blocks-called}
+use Rattle.leaves.proofs.RuleLaws.{leaves-none}
 use Rattle.table.specs.declared.Header.{Header}
 use Rattle.table.specs.Sized.{Sized}
 use Rattle.table.proofs.TestLaws.{never}
 use Rattle.visit.specs.declared.Visit.{Visit}
 use Rattle.visit.specs.Exact.{nodeBest, nodeMarks}
 use Rattle.visit.specs.Facts.{ruleCode}
-use Rattle.visit.specs.Fields.{usedPlane}
+use Rattle.visit.specs.Fields.{usedPlane, planeWords, allPlanes}
 use Rattle.visit.specs.Least.{none, leastBelow}
-use Rattle.visit.specs.Visited.{Visited}
+use Rattle.quick.specs.Visited.{Visited}
 use Rattle.visit.proofs.FactLaws.{facts-none}
 use Rattle.visit.proofs.LeastLaws.{least-more}
-use Rattle.visit.proofs.PlaneLaws.{used-length, used-put-used}
+use Rattle.visit.proofs.PlaneLaws.{used-length, used-put-used, facts-put-used, leaves-put-used}
 use Rattle.sweep.specs.declared.Blocked.{Blocked}
 use Rattle.sweep.specs.declared.Reached.{Reached}
-use Rattle.sweep.specs.Nodes.{JudgedTo, Fails, Going, Quickly, InBlocks, AllNodes}
+use Rattle.sweep.specs.Nodes.{KeptTo, Fails, Going, Quickly, InBlocks, AllNodes}
 use Rattle.sweep.specs.Swept.{SweptTo}
 use Rattle.sweep.proofs.EndLaws.{quick-swept, swept-none, node-length}
 use Rattle.sweep.proofs.SweptLaws.{node-swept}
@@ -39,7 +42,7 @@ visiting first n =
     record { header = first .header; node = n; low = first .low; limit = first .limit; judged = first .judged }
 
 module _ (table : List ℕ) (first : Visit) (end start : ℕ) (before : List ℕ) where
-  pub going-none : first .node ≤ end → length before ≡ 16 → start ≤ none
+  pub going-none : first .node ≤ end → length before ≡ allPlanes → start ≤ none
       → Going table first end start before before (first .node) start
   going-none inside size low =
       record {
@@ -49,7 +52,7 @@ module _ (table : List ℕ) (first : Visit) (end start : ℕ) (before : List ℕ
         low = low;
         marks = λ best swept. swept;
         enclosed = λ k from to. absurd (omega arith);
-        judged = λ strictly so-far. so-far;
+        kept = λ built so-far. so-far;
       }
 
   pub going-more : Sized table (first .header) → end ≤ nodes table
@@ -72,26 +75,45 @@ module _ (table : List ℕ) (first : Visit) (end start : ℕ) (before : List ℕ
           | yes earlier ↦ g .enclosed k from earlier
           | no here ↦ let same : k ≡ n = omega arith in rw same (visited .enclosed taken)
         ];
-        judged = λ strictly so-far.
-            let old = g .judged strictly so-far in
-            let new = visited .judged taken strictly (old .0) in
-            (new .0, least ∙ rw (old .1, new .1) (sym (least-more (ruleCode table) n)));
+        kept = λ built so-far.
+            let old = g .kept built so-far in
+            let new = visited .more taken built (old .leaves) (λ strictly. old .judge strictly .0) in
+            record {
+              leaves = new .0;
+              judge = λ strictly. (
+                visited .facts taken strictly (old .judge strictly .0),
+                least ∙ rw (old .judge strictly .1, new .1 strictly) (sym (least-more (ruleCode table) n)),
+              );
+            };
       }
 
 -- before the first node
-judged-none : (table : List ℕ) → JudgedTo table 0 none (replicate 16 0)
+kept-none : (table : List ℕ) (judged : Bool) → KeptTo table judged 0 none (replicate allPlanes 0)
 unfolding leastBelow
-judged-none table = (facts-none table, refl)
+kept-none table judged = record { leaves = leaves-none table judged; judge = λ strictly. (facts-none table, refl) }
+
+-- it does not change with the plane of the nodes used
+pub kept-put : {table : List ℕ} {judged : Bool} {n rule : ℕ} (planes : List ℕ) (size : length planes ≡ allPlanes) (words : List ℕ)
+    (many : length words ≡ planeWords) → KeptTo table judged n rule planes
+    → KeptTo table judged n rule (putMid 0 planeWords planes words)
+kept-put planes size words many kept =
+    record {
+      leaves = rw (leaves-put-used planes size words many) (kept .leaves);
+      judge = λ strictly. (
+        rw (facts-put-used planes size words many) (kept .judge strictly .0),
+        kept .judge strictly .1,
+      );
+    }
 
 -- block by block: the blocks of the procedures below p end before node n
 
 pub record Blocking (table : List ℕ) (judged : Bool) (planes : List ℕ) (n p rule : ℕ) : Type 0 where
   pub to : n ≤ nodes table
   pub within : p ≤ procedures table
-  pub size : length planes ≡ 16
+  pub size : length planes ≡ allPlanes
   pub low : rule ≤ none
   pub marks : SweptTo table n none (usedPlane planes)
-  pub judge : judged ≡ true → JudgedTo table n rule planes
+  pub kept : wellBuilt table ≡ Accepted → KeptTo table judged n rule planes
   pub blocks : Blocks table n p
 
 -- the block of procedure p, where there is one from node n on
@@ -104,7 +126,7 @@ block-is table p n end e inside =
     (bool-cases (ltb (body table p) (nodes table)))
 
 module _ (table : List ℕ) (judged : Bool) where
-  pub blocking-none : Blocking table judged (replicate 16 0) 0 0 none
+  pub blocking-none : Blocking table judged (replicate allPlanes 0) 0 0 none
   blocking-none =
       record {
         to = omega arith;
@@ -112,7 +134,7 @@ module _ (table : List ℕ) (judged : Bool) where
         size = refl;
         low = omega arith;
         marks = swept-none table;
-        judge = λ strictly. judged-none table;
+        kept = λ built. kept-none table judged;
         blocks = Blocks.none;
       }
 
@@ -124,7 +146,7 @@ module _ (table : List ℕ) (judged : Bool) where
           size = b .size;
           low = b .low;
           marks = b .marks;
-          judge = b .judge;
+          kept = b .kept;
           called = λ e. never (sym e);
         }
 
@@ -135,7 +157,7 @@ module _ (table : List ℕ) (judged : Bool) where
           size = b .size;
           low = b .low;
           marks = b .marks;
-          judge = b .judge;
+          kept = b .kept;
           called = λ e. blocks-called table n (rw all at (b .blocks));
         }
 
@@ -151,7 +173,7 @@ module _ (table : List ℕ) (judged : Bool) where
             size = q .going .size;
             low = q .going .low;
             marks = q .going .marks none (b .marks);
-            judge = λ strictly. q .going .judged strictly (b .judge strictly);
+            kept = λ built. q .going .kept built (b .kept built);
             called = λ e. never (sym e);
           }
 
@@ -165,7 +187,7 @@ module _ (table : List ℕ) (judged : Bool) where
             size = q .going .size;
             low = q .going .low;
             marks = q .going .marks none (b .marks);
-            judge = λ strictly. q .going .judged strictly (b .judge strictly);
+            kept = λ built. q .going .kept built (b .kept built);
             blocks =
                 rw all
                 (more n p (b .blocks) (omega arith) (λ k from to. q .going .enclosed k from (omega arith)));
@@ -175,11 +197,11 @@ module _ (table : List ℕ) (judged : Bool) where
 
 pub record Resting (table : List ℕ) (judged : Bool) (planes : List ℕ) (best : ℕ) (r : Reached) : Type 0 where
   pub to : r .node ≤ nodes table
-  pub size : length planes ≡ 16
+  pub size : length planes ≡ allPlanes
   pub low : r .rule ≤ none
   pub high : best ≤ none
   pub marks : SweptTo table (r .node) best (usedPlane planes)
-  pub judge : judged ≡ true → best ≡ none → JudgedTo table (r .node) (r .rule) planes
+  pub kept : wellBuilt table ≡ Accepted → best ≡ none → KeptTo table judged (r .node) (r .rule) planes
   pub stuck : r .node < nodes table → Fails table (r .node) planes
 
 module _ (table : List ℕ) (header : Header) (sized : Sized table header) (judged : Bool) where
@@ -196,7 +218,7 @@ module _ (table : List ℕ) (header : Header) (sized : Sized table header) (judg
         low = q .going .low;
         high = omega arith;
         marks = q .going .marks none (b .marks);
-        judge = λ strictly clean. q .going .judged strictly (b .judge strictly);
+        kept = λ built clean. q .going .kept built (b .kept built);
         stuck = λ inside. q .stuck (omega (arith, sized .nodes-read)) refl (sized .procedures-read);
       }
 
@@ -204,13 +226,13 @@ module _ (table : List ℕ) (header : Header) (sized : Sized table header) (judg
       → now .node < nodes table
       → best′ ≡ nodeBest table (now .node) (usedPlane planes) best
       → words ≡ nodeMarks table (now .node) (usedPlane planes)
-      → Quickly table (from-node (now .node + 1)) (header .nodes) (now .rule) (putMid 0 8 planes words) after r
+      → Quickly table (from-node (now .node + 1)) (header .nodes) (now .rule) (putMid 0 planeWords planes words) after r
       → Resting table judged after best′ r
   resting-more planes words after best best′ now r s inside found noted q =
       let fails : best′ < none = rw found (s .stuck inside best (s .high)) in
-      let many : length words ≡ 8 =
+      let many : length words ≡ planeWords =
       ap length noted ∙ node-length table (now .node) (usedPlane planes) ∙ used-length planes (s .size) in
-      let swept : SweptTo table (now .node + 1) best′ (usedPlane (putMid 0 8 planes words)) =
+      let swept : SweptTo table (now .node + 1) best′ (usedPlane (putMid 0 planeWords planes words)) =
       rw (used-put-used planes (s .size) words many, found, noted)
       (node-swept table (sized .nodes-high) (now .node) inside best (usedPlane planes) (s .marks)) in
       record {
@@ -219,7 +241,7 @@ module _ (table : List ℕ) (header : Header) (sized : Sized table header) (judg
         low = q .going .low;
         high = omega arith;
         marks = q .going .marks best′ swept;
-        judge = λ strictly clean. absurd (omega arith);
+        kept = λ built clean. absurd (omega arith);
         stuck = λ more. q .stuck (omega (arith, sized .nodes-read)) refl (sized .procedures-read);
       }
 
@@ -232,6 +254,6 @@ module _ (table : List ℕ) (header : Header) (sized : Sized table header) (judg
       record {
         size = s .size;
         marks = rw all at (s .marks);
-        judge = λ strictly clean. rw all at (s .judge strictly clean);
+        kept = λ built clean. rw all at (s .kept built clean);
         called = b .called;
       }

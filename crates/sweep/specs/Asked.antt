@@ -10,26 +10,29 @@ use Rattle.rules.specs.Acceptance.{judged}
 use Rattle.rules.specs.Answers.{_then_}
 use Rattle.rules.specs.Choice.{firstFailing}
 use Rattle.rules.specs.Table.{nodes, statementAt}
-use Rattle.rules.specs.WellFormed.{calledBelow, question12, wellFormed}
+use Rattle.rules.specs.WellFormed.{calledBelow, question12, question26, wellFormed}
 use Rattle.table.specs.declared.Header.{Header}
-use Rattle.table.specs.Sized.{Sized}
-use Rattle.visit.specs.Fields.{factsPlane, allPlanes}
+use Rattle.table.specs.Sized.{Sized, shapeVerdict}
+use Rattle.visit.specs.Fields.{factsPlane, leavesPlane, allPlanes}
 use Rattle.sweep.specs.Swept.{filledVerdict}
 
 -- the table passes 2 to 11
 pub record Filled (table : List ℕ) (header : Header) : Type 0 where
   pub sized : Sized table header
+  pub shaped : shapeVerdict table ≡ Accepted
   pub passed : filledVerdict table ≡ Accepted
 
--- the first call that fails 12; the facts are kept
+-- the first call that fails 12; facts and leaves are kept
 pub record FirstCall (table before after : List ℕ) (r : ℕ) : Type 0 where
   pub first : r ≡ firstFailing (λ n. calledBelow table n (statementAt table n)) (nodes table)
-  pub kept : factsPlane after ≡ factsPlane before
+  pub facts : factsPlane after ≡ factsPlane before
+  pub leaves : leavesPlane after ≡ leavesPlane before
   pub size : length after ≡ allPlanes
 
--- the first of questions 12 to 17 that fails, and of 2 to 17; 13 to 17 are asked only of a table that is judged
+-- the first of questions 12, 26 and 13 to 17 that fails, and of 2 to 12, 26 and 13 to 17; 13 to 17 are asked only of a table that is
+-- judged
 unfoldable pub callsAsked : Bool → List ℕ → Verdict
-callsAsked strictly table = question12 table then cond strictly (judged table) Accepted
+callsAsked strictly table = question12 table then question26 table then cond strictly (judged table) Accepted
 
 unfoldable pub asked : Bool → List ℕ → Verdict
 asked strictly table = wellFormed table then cond strictly (judged table) Accepted

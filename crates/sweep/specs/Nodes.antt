@@ -6,12 +6,13 @@ use Prim.Native.Nat.{ℕ, _≤_, _<_}
 use lib.ListN.{length}
 use Rattle.rules.specs.declared.Verdict.the-variants.{Accepted}
 use Rattle.rules.specs.Table.{procedures, nodes}
-use Rattle.rules.specs.WellFormed.{question12}
+use Rattle.rules.specs.WellFormed.{question12, wellBuilt}
+use Rattle.leaves.specs.Leaves.{LeavesTo}
 use Rattle.table.specs.Uses.{Enclosed}
 use Rattle.visit.specs.declared.Visit.{Visit}
 use Rattle.visit.specs.Exact.{nodeBest}
 use Rattle.visit.specs.Facts.{ruleCode, FactsTo}
-use Rattle.visit.specs.Fields.{usedPlane, factsPlane, allPlanes}
+use Rattle.visit.specs.Fields.{usedPlane, factsPlane, leavesPlane, allPlanes}
 use Rattle.visit.specs.Least.{none, leastBelow}
 use Rattle.sweep.specs.declared.Blocked.{Blocked}
 use Rattle.sweep.specs.declared.Reached.{Reached}
@@ -21,6 +22,11 @@ use Rattle.sweep.specs.Swept.{SweptTo, AfterNodes}
 -- the facts of the nodes below n, and the least refusal of 13 to 16 at them
 abbrev pub JudgedTo : List ℕ → ℕ → ℕ → List ℕ → Type 0
 JudgedTo table n rule planes = FactsTo table n (factsPlane planes) × (rule ≡ leastBelow (ruleCode table) n)
+
+-- what is kept of the nodes below n for 26 and 13 to 17, in a table that passes 2 to 12
+pub record KeptTo (table : List ℕ) (judged : Bool) (n rule : ℕ) (planes : List ℕ) : Type 0 where
+  pub leaves : LeavesTo table judged n (leavesPlane planes)
+  pub judge : judged ≡ true → JudgedTo table n rule planes
 
 -- something fails at node n
 abbrev pub Fails : List ℕ → ℕ → List ℕ → Type 0
@@ -34,7 +40,8 @@ pub record Going (table : List ℕ) (first : Visit) (end start : ℕ) (before af
   pub low : rule ≤ none
   pub marks : (best : ℕ) → SweptTo table (first .node) best (usedPlane before) → SweptTo table n best (usedPlane after)
   pub enclosed : (k : ℕ) → first .node ≤ k → k < n → Enclosed table k (first .low) (first .limit)
-  pub judged : first .judged ≡ true → JudgedTo table (first .node) start before → JudgedTo table n rule after
+  pub kept : wellBuilt table ≡ Accepted → KeptTo table (first .judged) (first .node) start before
+      → KeptTo table (first .judged) n rule after
 
 -- up to `end`, or to a node at which something fails if no block bounds its parts and calls
 pub record Quickly (table : List ℕ) (first : Visit) (end start : ℕ) (before after : List ℕ) (r : Reached) : Type 0 where
@@ -47,12 +54,12 @@ pub record InBlocks (table : List ℕ) (judged : Bool) (planes : List ℕ) (r : 
   pub size : length planes ≡ allPlanes
   pub low : r .rule ≤ none
   pub marks : SweptTo table (r .node) none (usedPlane planes)
-  pub judge : judged ≡ true → JudgedTo table (r .node) (r .rule) planes
+  pub kept : wellBuilt table ≡ Accepted → KeptTo table judged (r .node) (r .rule) planes
   pub called : r .ordered ≡ true → question12 table ≡ Accepted
 
--- all nodes. The facts matter only where no earlier question fails.
+-- all nodes. What is kept matters only where no earlier question fails.
 pub record AllNodes (table : List ℕ) (judged : Bool) (planes : List ℕ) (r : Found) : Type 0 where
   pub size : length planes ≡ allPlanes
   pub marks : AfterNodes table (r .best) (usedPlane planes)
-  pub judge : judged ≡ true → r .best ≡ none → JudgedTo table (nodes table) (r .rule) planes
+  pub kept : wellBuilt table ≡ Accepted → r .best ≡ none → KeptTo table judged (nodes table) (r .rule) planes
   pub called : r .ordered ≡ true → question12 table ≡ Accepted

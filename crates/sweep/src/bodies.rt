@@ -17,8 +17,8 @@ use table::marks::first_unmarked;
 use table::marks::marked;
 use table::words::body;
 use table::words::effect_flag;
+use visit::LEAVES;
 use visit::PLANE;
-use visit::PLANES;
 use visit::exact::note;
 use visit::least::worse;
 
@@ -84,7 +84,7 @@ fn flag_body(table: &[u8], header: Header, planes: &[u32], best: usize, p: usize
     requires { ⌜ FactsTo (now table) (nodes (now table)) (factsPlane (now planes)) ⌝ }
     ensures { λ r. ⌜ r ≡ min best (flagCode (now (table .entry)) p) ⌝ }
 {
-    if !marked(&planes[PLANE..PLANES], body(table, p)) {
+    if !marked(&planes[PLANE..LEAVES], body(table, p)) {
         return best;
     }
     if effect_flag(table, p) {

@@ -1,22 +1,23 @@
-// Questions 2 to 17 in one exact sweep: each node once, each procedure once, and the least refusal kept. "Lowest number first, then
+// Questions 2 to 12, 26 and 13 to 17 in one exact sweep: each node once, each procedure once, and the least refusal kept. "Lowest number first, then
 // lowest place" is the least of all refusals, so they may be met in any order.
-ghost use mathlib.Core.Path.{_≡_};
 ghost use mathlib.Core.Bool.{true};
+ghost use mathlib.Core.Path.{_≡_};
 ghost use lib.ListN.{length, replicate};
 ghost use Rattle.rules.specs.Acceptance.{judged};
 ghost use Rattle.rules.specs.Answers.{_then_};
 ghost use Rattle.rules.specs.Table.{nodes};
-ghost use Rattle.rules.specs.WellFormed.{question12, wellFormed};
+ghost use Rattle.rules.specs.WellFormed.{question12, wellBuilt, wellFormed};
 ghost use Rattle.rules.specs.declared.Verdict.the-variants.{Accepted};
 ghost use Rattle.sweep.specs.Asked.{Filled, FirstCall, callsAsked, asked};
-ghost use Rattle.sweep.specs.Nodes.{JudgedTo};
+ghost use Rattle.sweep.specs.Nodes.{KeptTo};
 ghost use Rattle.sweep.specs.Swept.{filledVerdict};
-ghost use Rattle.table.specs.Sized.{Sized};
+ghost use Rattle.table.specs.Sized.{Sized, shapeVerdict};
 ghost use Rattle.visit.specs.Fields.{allPlanes};
 use crate::bodies::sweep_uses;
 use crate::bodies::unflagged;
 use crate::nodes::sweep_nodes;
 use calls::first_miscalled;
+use leaves::loose::first_loose;
 use rules::Verdict;
 use table::Header;
 use table::marks::clear;
@@ -66,7 +67,7 @@ fn first_call(table: &[u8], header: Header, planes: &mut [u32], ordered: bool) -
     first_miscalled(table, header, &mut planes[0..PLANE])
 }
 
-// Questions 12 to 17 of a table that passes 2 to 11, the last five only if it is judged.
+// Questions 12, 26 and 13 to 17 of a table that passes 2 to 11, the last five only if it is judged.
 fn ask_calls(
     table: &[u8],
     header: Header,
@@ -75,12 +76,16 @@ fn ask_calls(
     found: Found,
 ) -> Verdict
     requires { ⌜ Filled (now table) header × (length (now planes) ≡ allPlanes) × (found .ordered ≡ true → question12 (now table) ≡ Accepted) ⌝ }
-    requires { ⌜ (judged ≡ true → JudgedTo (now table) (nodes (now table)) (found .rule) (now planes)) ⌝ }
+    requires { ⌜ (wellBuilt (now table) ≡ Accepted → KeptTo (now table) judged (nodes (now table)) (found .rule) (now planes)) ⌝ }
     ensures { λ r. ⌜ r ≡ callsAsked judged (now (table .entry)) ⌝ }
 {
     let call = first_call(table, header, planes, found.ordered);
     if call < header.nodes {
         return refused(12, call as u32);
+    }
+    let leave = first_loose(table, header, planes);
+    if leave < header.nodes {
+        return refused(26, leave as u32);
     }
     if judged {
         return verdict(unflagged(table, header, planes, found.rule));
@@ -88,9 +93,9 @@ fn ask_calls(
     Verdict::Accepted
 }
 
-// Questions 6 to 17 of a table that passes 2 to 5.
+// Questions 6 to 12, 26 and 13 to 17 of a table that passes 2 to 5.
 fn ask_contents(table: &[u8], header: Header, planes: &mut [u32], judged: bool) -> Verdict
-    requires { ⌜ Sized (now table) header × (now planes ≡ replicate allPlanes 0) ⌝ }
+    requires { ⌜ Sized (now table) header × (shapeVerdict (now table) ≡ Accepted) × (now planes ≡ replicate allPlanes 0) ⌝ }
     ensures { λ r. ⌜ r ≡ (filledVerdict (now (table .entry)) then callsAsked judged (now (table .entry))) ⌝ }
 {
     let found = sweep_nodes(table, header, planes, judged);
@@ -101,7 +106,7 @@ fn ask_contents(table: &[u8], header: Header, planes: &mut [u32], judged: bool) 
     ask_calls(table, header, planes, judged, found)
 }
 
-// Questions 2 to 17, the last five only if the table is judged, over planes that are zero.
+// Questions 2 to 12, 26 and 13 to 17, the last five only if the table is judged, over planes that are zero.
 fn ask(table: &[u8], planes: &mut [u32], judged: bool) -> Verdict
     requires { ⌜ now planes ≡ replicate allPlanes 0 ⌝ }
     ensures { λ r. ⌜ r ≡ asked judged (now (table .entry)) ⌝ }
@@ -113,7 +118,7 @@ fn ask(table: &[u8], planes: &mut [u32], judged: bool) -> Verdict
     }
 }
 
-// Questions 2 to 12.
+// Questions 2 to 12 and 26.
 pub fn well_formed(table: &[u8], planes: &mut [u32]) -> Verdict
     requires { ⌜ now planes ≡ replicate allPlanes 0 ⌝ }
     ensures { λ r. ⌜ r ≡ wellFormed (now (table .entry)) ⌝ }
@@ -121,7 +126,7 @@ pub fn well_formed(table: &[u8], planes: &mut [u32]) -> Verdict
     ask(table, planes, false)
 }
 
-// Questions 2 to 17.
+// Questions 2 to 12, 26 and 13 to 17.
 pub fn accepted(table: &[u8], planes: &mut [u32]) -> Verdict
     requires { ⌜ now planes ≡ replicate allPlanes 0 ⌝ }
     ensures { λ r. ⌜ r ≡ (wellFormed (now (table .entry)) then judged (now (table .entry))) ⌝ }

@@ -1,7 +1,7 @@
 // All nodes in their order: quickly while nothing fails, in the blocks of the procedures as long as these follow one another.
 ghost use mathlib.Core.Bool.{cond};
 ghost use mathlib.Core.Path.{_≡_};
-ghost use Prim.Native.Nat.{_+_, _<_, _≤_, min};
+ghost use Prim.Native.Nat.{_+_, _<_, _≤_};
 ghost use lib.Dec.{ltb};
 ghost use lib.ListN.{length, replicate};
 ghost use Rattle.rules.specs.Table.{nodes, body};
@@ -12,6 +12,7 @@ ghost use Rattle.visit.specs.Fields.{allPlanes};
 use crate::Blocked;
 use crate::Found;
 use crate::Reached;
+use quick::quick;
 use table::Header;
 use table::words::body;
 use visit::PLANE;
@@ -19,18 +20,7 @@ use visit::STUCK;
 use visit::Visit;
 use visit::exact::exact;
 use visit::least::NONE;
-use visit::quick::quick;
-
-// Most nodes have no refusal, and then nothing is compared.
-fn lesser(rule: usize, found: usize) -> usize
-    requires { ⌜ rule ≤ none ⌝ }
-    ensures { λ r. ⌜ r ≡ min rule found ⌝ }
-{
-    if found == NONE {
-        return rule;
-    }
-    if found < rule { found } else { rule }
-}
+use visit::least::lesser;
 
 // On over the nodes at which nothing fails, up to `end` or the first that is stuck.
 fn sweep_quickly(

@@ -5,16 +5,16 @@ use mathlib.Core.Logic.{⊎-elim}
 use mathlib.Core.Path.{_≡_, refl, sym, _∙_, ap}
 use Prim.Native.Nat.{ℕ, _+_, _-_, _*_, _/_, _%_, _^_, _≤_, _<_}
 use native.Mathlib.Decide.{decLt, ℕ-discrete}
-use native.Mathlib.Nat.{add-div-right, add-mul-div-left, zero-div, one-mul}
+use native.Mathlib.Nat.{add-div-right, add-mul-div-left, div-eq-of-lt, zero-div, one-mul}
 use native.Mathlib.Omega.{arith}
 use lib.Dec.{eqb}
 use lib.ListN.{length, getD, set, replicate, length-set, length-replicate, getD-replicate, List·getD-eq-default}
 use lib.Pow.{pow-pos, pow-add, shl-exact, shr-shr}
 use lib.Seq.{getD-set-same, getD-set-other, set-out}
-use borrow.Author.Tests.{eq-eqb, eqb-false}
+use borrow.Author.Tests.{eq-eqb, ne-eqb, eqb-true, eqb-false}
 use Rattle.rules.specs.Choice.{firstFailing, allBelow}
 use Rattle.rules.proofs.ChoiceLaws.{bool-cases, all-at}
-use Rattle.table.specs.Marks.{hasBit, bitAt, withBit}
+use Rattle.table.specs.Marks.{hasBit, bitAt, withBit, withoutBit}
 
 -- a word's bit k is clear: what its places are after 2 ^ k is added
 
@@ -72,6 +72,32 @@ added-fits w k l fits clear =
     let same : (w + 2 ^ k) / 2 ^ 32 ≡ w / 2 ^ 32 = rw e at (above-place w k clear (31 - k)) in
     omega arith
 
+-- a word's bit k is set: 2 ^ k is taken off, and added again
+module _ (w k : ℕ) (here : hasBit w k ≡ true) where
+  odd : w / 2 ^ k % 2 ≡ 1
+  unfolding hasBit
+  odd = eqb-true (w / 2 ^ k % 2) 1 here
+
+  pub bit-within : 2 ^ k ≤ w
+  bit-within =
+      elim (decLt w (2 ^ k)) [
+        | yes l ↦ let z : w / 2 ^ k ≡ 0 = div-eq-of-lt l in absurd (omega (arith, odd))
+        | no m ↦ omega arith
+      ]
+
+  again : w - 2 ^ k + 2 ^ k ≡ w
+  again = omega (arith, bit-within)
+
+  pub bit-taken : hasBit (w - 2 ^ k) k ≡ false
+  unfolding hasBit
+  bit-taken =
+      let one : w / 2 ^ k ≡ (w - 2 ^ k) / 2 ^ k + 1 =
+      rw again at (add-div-right (w - 2 ^ k) (pow-pos k)) in
+      ne-eqb ((w - 2 ^ k) / 2 ^ k % 2) 1 (λ e. omega (arith, odd))
+
+  pub bit-left : (j : ℕ) → (j ≡ k → ⊥) → hasBit (w - 2 ^ k) j ≡ hasBit w j
+  bit-left j other = sym (bit-kept (w - 2 ^ k) k j other bit-taken) ∙ ap (λ (x : ℕ). hasBit x j) again
+
 -- the code's shift
 pub shifted : (k : ℕ) → k < 32 → (1 * 2 ^ k) % 2 ^ 32 ≡ 2 ^ k
 shifted k l = shl-exact {a = 1} 1 k 32 (omega arith) (omega arith) ∙ one-mul (2 ^ k)
@@ -86,25 +112,32 @@ length-withBit m n =
     (λ (e : bitAt m n ≡ false). simp (e, length-set))
     (bool-cases (bitAt m n))
 
-set-same : (m : List ℕ) (n : ℕ) → n < 32 * length m → bitAt m n ≡ false
-    → bitAt (set m (n / 32) (getD m (n / 32) 0 + 2 ^ (n % 32))) n ≡ true
+pub bit-clear : (m : List ℕ) (n : ℕ) → bitAt m n ≡ false → hasBit (getD m (n / 32) 0) (n % 32) ≡ false
 unfolding bitAt
-set-same m n l clear =
-    let inside : n / 32 < length m = omega arith in
-    rw (getD-set-same m (n / 32) (getD m (n / 32) 0 + 2 ^ (n % 32)) 0 inside)
-    (bit-added (getD m (n / 32) 0) (n % 32) clear)
+bit-clear m n e = e
 
-set-other : (m : List ℕ) (n k : ℕ) → (k ≡ n → ⊥) → bitAt m n ≡ false
-    → bitAt (set m (n / 32) (getD m (n / 32) 0 + 2 ^ (n % 32))) k ≡ bitAt m k
+pub bit-set : (m : List ℕ) (n : ℕ) → bitAt m n ≡ true → hasBit (getD m (n / 32) 0) (n % 32) ≡ true
 unfolding bitAt
-set-other m n k other clear =
-    let v = getD m (n / 32) 0 + 2 ^ (n % 32) in
+bit-set m n e = e
+
+set-same : (m : List ℕ) (n v : ℕ) → n < 32 * length m → bitAt (set m (n / 32) v) n ≡ hasBit v (n % 32)
+unfolding bitAt
+set-same m n v l =
+    let inside : n / 32 < length m = omega arith in
+    rw (getD-set-same m (n / 32) v 0 inside)
+
+-- a word of which only bit n % 32 is another
+set-other : (m : List ℕ) (n k v : ℕ) → (k ≡ n → ⊥)
+    → ((j : ℕ) → (j ≡ n % 32 → ⊥) → hasBit v j ≡ hasBit (getD m (n / 32) 0) j)
+    → bitAt (set m (n / 32) v) k ≡ bitAt m k
+unfolding bitAt
+set-other m n k v other kept =
     elim (decLt (n / 32) (length m)) [
       | yes inside ↦
           elim (ℕ-discrete (k / 32) (n / 32)) [
             | yes same ↦
                 let apart : k % 32 ≡ n % 32 → ⊥ = λ e. other (omega arith) in
-                rw (same, getD-set-same m (n / 32) v 0 inside) (bit-kept (getD m (n / 32) 0) (n % 32) (k % 32) apart clear)
+                rw (same, getD-set-same m (n / 32) v 0 inside) (kept (k % 32) apart)
             | no word ↦ rw (getD-set-other m (n / 32) (k / 32) v 0 word)
           ]
       | no outside ↦ let past : length m ≤ n / 32 = omega arith in rw (set-out m (n / 32) v past)
@@ -116,7 +149,8 @@ unfolding withBit
 bit-same m n l =
     ⊎-elim
     (λ (e : bitAt m n ≡ true). simp e)
-    (λ (e : bitAt m n ≡ false). simp e (set-same m n l e))
+    (λ (e : bitAt m n ≡ false).
+    simp e (set-same m n (getD m (n / 32) 0 + 2 ^ (n % 32)) l ∙ bit-added (getD m (n / 32) 0) (n % 32) (bit-clear m n e)))
     (bool-cases (bitAt m n))
 
 -- and no other
@@ -125,7 +159,38 @@ unfolding withBit
 bit-other m n k other =
     ⊎-elim
     (λ (e : bitAt m n ≡ true). simp e)
-    (λ (e : bitAt m n ≡ false). simp e (set-other m n k other e))
+    (λ (e : bitAt m n ≡ false).
+    simp e
+    (set-other m n k (getD m (n / 32) 0 + 2 ^ (n % 32)) other
+    (λ j apart. bit-kept (getD m (n / 32) 0) (n % 32) j apart (bit-clear m n e))))
+    (bool-cases (bitAt m n))
+
+-- taking a mark off clears the bit, and no other
+pub length-withoutBit : (m : List ℕ) (n : ℕ) → length (withoutBit m n) ≡ length m
+unfolding withoutBit
+length-withoutBit m n =
+    ⊎-elim
+    (λ (e : bitAt m n ≡ true). simp (e, length-set))
+    (λ (e : bitAt m n ≡ false). simp e)
+    (bool-cases (bitAt m n))
+
+pub without-same : (m : List ℕ) (n : ℕ) → n < 32 * length m → bitAt (withoutBit m n) n ≡ false
+unfolding withoutBit
+without-same m n l =
+    ⊎-elim
+    (λ (e : bitAt m n ≡ true).
+    simp e (set-same m n (getD m (n / 32) 0 - 2 ^ (n % 32)) l ∙ bit-taken (getD m (n / 32) 0) (n % 32) (bit-set m n e)))
+    (λ (e : bitAt m n ≡ false). simp e)
+    (bool-cases (bitAt m n))
+
+pub without-other : (m : List ℕ) (n k : ℕ) → (k ≡ n → ⊥) → bitAt (withoutBit m n) k ≡ bitAt m k
+unfolding withoutBit
+without-other m n k other =
+    ⊎-elim
+    (λ (e : bitAt m n ≡ true).
+    simp e
+    (set-other m n k (getD m (n / 32) 0 - 2 ^ (n % 32)) other (bit-left (getD m (n / 32) 0) (n % 32) (bit-set m n e))))
+    (λ (e : bitAt m n ≡ false). simp e)
     (bool-cases (bitAt m n))
 
 -- zeroed words mark nothing
@@ -140,10 +205,6 @@ bit-zero count k =
           (let past : count ≤ k / 32 = omega arith in simp length-replicate past)
     ] in
     simp (word, zero-div)
-
-pub bit-clear : (m : List ℕ) (n : ℕ) → bitAt m n ≡ false → hasBit (getD m (n / 32) 0) (n % 32) ≡ false
-unfolding bitAt
-bit-clear m n e = e
 
 -- a word in which every bit is set
 

@@ -15,7 +15,11 @@ use Rattle.rules.specs.WellFormed.{namedFields, unnamedZero, expressionFits, co
 use Rattle.rules.specs.WellFormed.{expressionParts, collectiveParts, statementParts, partsAt}
 use Rattle.table.specs.Roles.{roles, roleOf, fieldZero, fieldFits, fieldParts}
 
--- P holds of each kind 0 to 25, and of those above, so of every kind
+-- the kinds that the roles list: 0 to 26
+abbrev listed : ℕ
+listed = 27
+
+-- P holds of each kind listed, and of those above, so of every kind
 data Each (P : ℕ → Type 0) : ℕ → Type 0 where
   none : Each P zero
   _also_ : {n : ℕ} → Each P n → P n → Each P (suc n)
@@ -26,8 +30,8 @@ each-below P zero none k l = absurd (omega arith)
 each-below P (suc n) (earlier also here) k l =
     elim (decLt k n) [ yes m ↦ each-below P n earlier k m | no m ↦ let e : k ≡ n = omega arith in rw e here ]
 
-each-kind : (P : ℕ → Type 0) → Each P 26 → ((k : ℕ) → 26 ≤ k → P k) → (k : ℕ) → P k
-each-kind P known unknown k = elim (decLt k 26) [ yes l ↦ each-below P 26 known k l | no m ↦ unknown k (omega arith) ]
+each-kind : (P : ℕ → Type 0) → Each P listed → ((k : ℕ) → listed ≤ k → P k) → (k : ℕ) → P k
+each-kind P known unknown k = elim (decLt k listed) [ yes l ↦ each-below P listed known k l | no m ↦ unknown k (omega arith) ]
 
 abbrev node : ℕ → ℕ → ℕ → ℕ → Node
 node k a b c = record { kind = k; a = a; b = b; c = c }
@@ -40,7 +44,7 @@ thirteen-more : (k : ℕ) → 13 ≤ k → k ≡ thirteen (k - 13)
 unfolding thirteen
 thirteen-more k h = omega arith
 
-module _ (k a b c : ℕ) (h : 26 ≤ k) where
+module _ (k a b c : ℕ) (h : listed ≤ k) where
   expression-unknown : expressionOf (node k a b c) ≡ constant 0
   unfolding expressionOf thirteen
   expression-unknown = rw (thirteen-more k (omega arith))
@@ -48,18 +52,18 @@ module _ (k a b c : ℕ) (h : 26 ≤ k) where
   statement-unknown : statementOf (node k a b c) ≡ nothing
   unfolding statementOf
   statement-unknown =
-      let e : k - 16 ≡ suc (suc (suc (suc (suc (suc (suc (suc (suc (suc (k - 26)))))))))) = omega arith in rw e
+      let e : k - 16 ≡ suc (suc (suc (suc (suc (suc (suc (suc (suc (suc (suc (k - listed))))))))))) = omega arith in rw e
 
-role-unknown : (k place : ℕ) → 26 ≤ k → roleOf k place ≡ 0
+role-unknown : (k place : ℕ) → listed ≤ k → roleOf k place ≡ 0
 unfolding roleOf roles
 role-unknown k place h =
     let none : getD roles k 0 ≡ 0 = List·getD-eq-default roles 0 {n = k} h in
     simp (none, zero-div)
 
-named-unknown : (k : ℕ) → 26 ≤ k → namedFields k ≡ 0
+named-unknown : (k : ℕ) → listed ≤ k → namedFields k ≡ 0
 unfolding namedFields thirteen
 named-unknown k h =
-    let e : k ≡ thirteen (thirteen (k - 26)) = omega arith in rw e
+    let e : k ≡ suc (thirteen (thirteen (k - listed))) = omega arith in rw e
 
 -- question 8
 abbrev ZeroAt : ℕ → Type 0
@@ -67,7 +71,7 @@ ZeroAt k =
     (a b c : ℕ)
     → unnamedZero (node k a b c) ≡ (fieldZero (roleOf k 100) a && (fieldZero (roleOf k 10) b && fieldZero (roleOf k 1) c))
 
-zero-known : Each ZeroAt 26
+zero-known : Each ZeroAt listed
 unfolding unnamedZero namedFields roleOf roles fieldZero
 zero-known =
     none also (λ a b c. simp and-true) also (λ a b c. refl) also (λ a b c. simp and-assoc)
@@ -76,9 +80,9 @@ zero-known =
     also (λ a b c. refl) also (λ a b c. simp and-assoc) also (λ a b c. simp and-assoc)
     also (λ a b c. simp and-assoc) also (λ a b c. simp and-assoc) also (λ a b c. refl)
     also (λ a b c. refl) also (λ a b c. refl) also (λ a b c. refl) also (λ a b c. refl) also (λ a b c. refl)
-    also (λ a b c. simp and-assoc) also (λ a b c. refl) also (λ a b c. refl)
+    also (λ a b c. simp and-assoc) also (λ a b c. refl) also (λ a b c. refl) also (λ a b c. simp and-assoc)
 
-zero-unknown : (k : ℕ) → 26 ≤ k → ZeroAt k
+zero-unknown : (k : ℕ) → listed ≤ k → ZeroAt k
 unfolding unnamedZero fieldZero
 zero-unknown k h a b c =
     let other : eqb k 0 ≡ false = ne-eqb k 0 (λ e. omega arith) in
@@ -97,7 +101,7 @@ module _ (table : List ℕ) (n : ℕ) where
       → (expressionFits table n (expressionOf (node k a b c)) && statementFits table n (statementOf (node k a b c)))
       ≡ (fieldFits table n (roleOf k 100) a && (fieldFits table n (roleOf k 10) b && fieldFits table n (roleOf k 1) c))
 
-  fits-known : Each FitsAt 26
+  fits-known : Each FitsAt listed
   unfolding expressionOf statementOf expressionFits collectiveFits statementFits roleOf roles fieldFits
   fits-known =
       none also (λ a b c. refl) also (λ a b c. simp and-true) also (λ a b c. refl) also (λ a b c. refl)
@@ -109,9 +113,9 @@ module _ (table : List ℕ) (n : ℕ) where
       also (λ a b c. refl) also (λ a b c. simp and-true) also (λ a b c. simp and-true)
       also (λ a b c. simp and-assoc) also (λ a b c. simp and-true)
       also (λ a b c. simp and-true) also (λ a b c. simp and-true) also (λ a b c. refl)
-      also (λ a b c. simp and-assoc) also (λ a b c. simp and-true)
+      also (λ a b c. simp and-assoc) also (λ a b c. simp and-true) also (λ a b c. refl)
 
-  fits-unknown : (k : ℕ) → 26 ≤ k → FitsAt k
+  fits-unknown : (k : ℕ) → listed ≤ k → FitsAt k
   unfolding expressionFits statementFits fieldFits
   fits-unknown k h a b c =
       simp
@@ -133,7 +137,7 @@ PartsAt k =
     → (expressionParts (expressionOf (node k a b c)) ++ statementParts (statementOf (node k a b c)))
     ≡ fieldParts (roleOf k 100) a ++ (fieldParts (roleOf k 10) b ++ fieldParts (roleOf k 1) c)
 
-parts-known : Each PartsAt 26
+parts-known : Each PartsAt listed
 unfolding expressionOf statementOf expressionParts collectiveParts statementParts roleOf roles fieldParts
 parts-known =
     none also (λ a b c. refl) also (λ a b c. refl) also (λ a b c. refl) also (λ a b c. refl) also (λ a b c. refl)
@@ -141,9 +145,9 @@ parts-known =
     also (λ a b c. refl) also (λ a b c. refl) also (λ a b c. refl) also (λ a b c. refl) also (λ a b c. refl)
     also (λ a b c. refl) also (λ a b c. refl) also (λ a b c. refl) also (λ a b c. refl) also (λ a b c. refl)
     also (λ a b c. refl) also (λ a b c. refl) also (λ a b c. refl) also (λ a b c. refl) also (λ a b c. refl)
-    also (λ a b c. refl)
+    also (λ a b c. refl) also (λ a b c. refl)
 
-parts-unknown : (k : ℕ) → 26 ≤ k → PartsAt k
+parts-unknown : (k : ℕ) → listed ≤ k → PartsAt k
 unfolding expressionParts statementParts fieldParts
 parts-unknown k h a b c =
     simp

@@ -13,7 +13,7 @@ unfoldable pub roles : List ℕ
 roles =
     55 ∷ 100 ∷ 0 ∷ 0 ∷ 200 ∷ 200 ∷ 220 ∷ 220 ∷ 220 ∷ 220 ∷ 220 ∷ 220 ∷ 220
     ∷ 0 ∷ 0 ∷ 0
-    ∷ 0 ∷ 120 ∷ 330 ∷ 233 ∷ 230 ∷ 400 ∷ 220 ∷ 0 ∷ 122 ∷ 200 ∷ []
+    ∷ 0 ∷ 120 ∷ 330 ∷ 233 ∷ 230 ∷ 400 ∷ 220 ∷ 0 ∷ 122 ∷ 200 ∷ 0 ∷ []
 
 -- the role of a field of a kind, by the value of its digit's place: 100 for A, 10 for B, 1 for C. The fields of an unknown kind
 -- are unnamed.

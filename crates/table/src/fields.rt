@@ -29,7 +29,7 @@ pub const STATEMENT: u16 = 3;
 pub const PROCEDURE: u16 = 4;
 
 // The roles of the fields A, B, C of a kind, a digit each. A 5 is half of a constant, which may be any number.
-const ROLES: [u16; 26] = [
+const ROLES: [u16; 27] = [
     55, // 0 constant B × 512 + C
     100, // 1 variable A
     0, // 2 own number
@@ -56,6 +56,7 @@ const ROLES: [u16; 26] = [
     0, // 23 barrier
     122, // 24 broadcast to variable A of B from C
     200, // 25 exchange of A
+    0, // 26 leave
 ];
 
 // The places of the digits.
@@ -69,7 +70,7 @@ pub const C: u16 = 1;
 fn roles(kind: u32) -> u16
     ensures { λ r. ⌜ r ≡ getD roles kind 0 ⌝ }
 {
-    if kind < 26 { ROLES[kind as usize] } else { 0 }
+    if kind < 27 { ROLES[kind as usize] } else { 0 }
 }
 
 pub fn digit(roles: u16, place: u16) -> u16

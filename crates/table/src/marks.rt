@@ -4,7 +4,7 @@ ghost use mathlib.Core.Path.{_≡_};
 ghost use Prim.Native.Nat.{_+_, _*_, _<_, _≤_};
 ghost use lib.ListN.{length, replicate};
 ghost use Rattle.rules.specs.Choice.{firstFailing};
-ghost use Rattle.table.specs.Marks.{bitAt, withBit, Passed};
+ghost use Rattle.table.specs.Marks.{bitAt, withBit, withoutBit, Passed};
 
 pub fn marked(marks: &[u32], n: usize) -> bool
     requires { ⌜ n < 32 * length (now marks) ⌝ }
@@ -28,6 +28,16 @@ pub fn mark(marks: &mut [u32], n: usize)
 {
     if !marked(marks, n) {
         put(marks, n);
+    }
+}
+
+pub fn unmark(marks: &mut [u32], n: usize)
+    requires { ⌜ n < 32 * length (now marks) ⌝ }
+    ensures { λ _. ⌜ now (marks .exit) ≡ withoutBit (now (marks .entry)) n ⌝ }
+{
+    if marked(marks, n) {
+        let bit: u32 = 1 << (n % 32);
+        marks[n / 32] = marks[n / 32] - bit;
     }
 }
 

@@ -18,7 +18,7 @@ use Rattle.rules.specs.Process.{mostProcesses, environment, processAt, depth, t
 use Rattle.rules.proofs.ChoiceLaws.{bool-cases}
 use Rattle.rules.specs.Start.{question18, question19, question20, startVerdict, startRoll, startedBy, started}
 use Rattle.rules.specs.Step.{Outcome, processesIn, question22, question23, question24, stepVerdict, moved, completed, arrivedAt, stepRunning, stepTaken, steppedBy, stepped}
-use Rattle.rules.specs.Table.{Collective, Statement, nothing, assign, sequence, branch, loop, call, latch, collective, statementAt, onCollective}
+use Rattle.rules.specs.Table.{Collective, Statement, nothing, assign, sequence, branch, loop, call, latch, collective, leave, statementAt, onCollective}
 use Rattle.rules.specs.WellFormed.{wellFormed}
 use Rattle.team.proofs.Recorded.{Recorded, recorded-with, recorded-each, long-21, then-refused, Call}
 
@@ -80,6 +80,7 @@ module _ (n : ℕ) where
   on-collective (call q) meet other h k = k
   on-collective (latch a b) meet other h k = k
   on-collective (collective m) meet other h k = h m
+  on-collective leave meet other h k = k
 
   moved-recorded : (state roll : List ℕ) (count p : ℕ) (words : List ℕ) → Recorded n roll → Keeps (moved state roll count p words)
   unfolding moved

@@ -8,20 +8,20 @@ use native.Mathlib.Decide.{decLt}
 use native.Mathlib.Omega.{arith}
 use lib.Dec.{leb}
 use lib.ListN.{length, getD, replicate, length-replicate}
-use borrow.Author.Tests.{leb-true}
+use borrow.Author.Tests.{leb-true, ne-eqb}
 use Rattle.rules.specs.declared.Node.{Node}
 use Rattle.rules.specs.Acceptance.{ruleOf}
 use Rattle.rules.specs.Below.{below, atNode}
 use Rattle.rules.specs.Judgement.{singleOf, single, effectOf, effect}
-use Rattle.rules.specs.Table.{flagged, nodeAt, expressionOf, expressionAt, statementOf, statementAt}
+use Rattle.rules.specs.Table.{lastStatement, flagged, nodeAt, expressionOf, expressionAt, statementOf, statementAt}
 use Rattle.rules.specs.WellFormed.{isExpression, isStatement}
 use Rattle.rules.proofs.AnswerLaws.{both-left}
 use Rattle.rules.proofs.BelowLaws.{below-at}
 use Rattle.rules.proofs.ChoiceLaws.{bool-cases}
-use Rattle.rules.proofs.KindLaws.{operation-of}
+use Rattle.rules.proofs.KindLaws.{operation-of, by-kind}
 use Rattle.table.specs.Marks.{bitAt, withBit}
 use Rattle.table.proofs.BitLaws.{length-withBit, bit-same, bit-other, bit-zero}
-use Rattle.visit.specs.Facts.{fact, ruleCode, FactsTo}
+use Rattle.visit.specs.Facts.{fact, ruleCode, guardCode, FactsTo}
 use Rattle.visit.specs.Least.{none, code, failure}
 
 -- the plane
@@ -94,7 +94,7 @@ module _ (table : List ℕ) (n : ℕ) where
 
   -- a node is of one sort
 
-  fact-expression : isExpression table n ≡ true → fact table n ≡ not (single table n)
+  pub fact-expression : isExpression table n ≡ true → fact table n ≡ not (single table n)
   unfolding fact isExpression statementOf effectOf
   fact-expression e =
       let low = leb-true (nodeAt table n .kind) 12 e in
@@ -106,7 +106,7 @@ module _ (table : List ℕ) (n : ℕ) where
   unfolding fact isStatement expressionOf singleOf
   fact-statement e =
       let kind = nodeAt table n .kind in
-      let high = leb-true 16 kind (both-left (leb 16 kind) (leb kind 25) e) in
+      let high = leb-true 16 kind (both-left (leb 16 kind) (leb kind lastStatement) e) in
       let other : kind ≡ suc (suc (suc (suc (suc (suc (suc (suc (suc (suc (suc (suc (suc (kind - 13))))))))))))) = omega arith in
       let free : single table n ≡ true = single-once ∙ rw other in
       simp free
@@ -207,45 +207,35 @@ module _ (table : List ℕ) (n : ℕ) where
 
   -- the refusals by 13 to 16
 
-  unasked : (j : ℕ) → kind - 16 ≡ j → (j ≡ 1 → ⊥) → (j ≡ 3 → ⊥) → (j ≡ 4 → ⊥) → (j ≡ 8 → ⊥) → ruleCode table n ≡ none
-  unfolding ruleCode ruleOf statementAt statementOf
-  unasked zero e p q r s = simp e
-  unasked (suc zero) e p q r s = absurd (p refl)
-  unasked (suc (suc zero)) e p q r s = simp e
-  unasked (suc (suc (suc zero))) e p q r s = absurd (q refl)
-  unasked (suc (suc (suc (suc zero)))) e p q r s = absurd (r refl)
-  unasked (suc (suc (suc (suc (suc zero))))) e p q r s = simp e
-  unasked (suc (suc (suc (suc (suc (suc zero)))))) e p q r s = simp e
-  unasked (suc (suc (suc (suc (suc (suc (suc zero))))))) e p q r s = simp e
-  unasked (suc (suc (suc (suc (suc (suc (suc (suc zero)))))))) e p q r s = absurd (s refl)
-  unasked (suc (suc (suc (suc (suc (suc (suc (suc (suc zero))))))))) e p q r s = simp e
-  unasked (suc (suc (suc (suc (suc (suc (suc (suc (suc (suc j)))))))))) e p q r s = simp e
-
-  pub rule-none : (kind ≡ 17 → ⊥) → (kind ≡ 19 → ⊥) → (kind ≡ 20 → ⊥) → (kind ≡ 24 → ⊥) → ruleCode table n ≡ none
+  pub rule-none : (kind ≡ 17 → ⊥) → (kind ≡ 19 → ⊥) → (kind ≡ 20 → ⊥) → (kind ≡ 24 → ⊥) → guardCode table n ≡ none
+  unfolding guardCode ruleCode ruleOf statementAt
   rule-none p q r s =
-      unasked (kind - 16) refl (λ e. p (omega arith)) (λ e. q (omega arith)) (λ e. r (omega arith)) (λ e. s (omega arith))
+      simp (ne-eqb kind 20 r)
+      (by-kind (λ t. failure (ruleOf table t .question) n (ruleOf table t .holds) ≡ none) (nodeAt table n) (λ e. absurd (p e))
+      (λ e. refl) (λ e. absurd (q e)) (λ e. absurd (r e)) (λ e. refl) (λ e. refl) (λ e. refl) (λ e. absurd (s e)) (λ e. refl)
+      (λ e. refl) refl)
 
   pub rule-17 : kind ≡ 17 → isExpression table b ≡ true
-      → ruleCode table n ≡ cond (flagged table a) (cond (fact table b) (code 13 n) none) none
-  unfolding ruleCode ruleOf statementAt statementOf
+      → guardCode table n ≡ cond (flagged table a) (cond (fact table b) (code 13 n) none) none
+  unfolding guardCode ruleCode ruleOf statementAt statementOf
   rule-17 e s = simp (e, single-fact table b s) (fails-both 13 n (flagged table a) (fact table b))
 
   pub rule-24 : kind ≡ 24 → isExpression table c ≡ true
-      → ruleCode table n ≡ cond (fact table c) (code 14 n) none
-  unfolding ruleCode ruleOf statementAt statementOf
+      → guardCode table n ≡ cond (fact table c) (code 14 n) none
+  unfolding guardCode ruleCode ruleOf statementAt statementOf
   rule-24 e s = simp (e, single-fact table c s) (fails-both 14 n true (fact table c))
 
   pub rule-19 : kind ≡ 19 → isExpression table a ≡ true → isStatement table b ≡ true → isStatement table c ≡ true
-      → ruleCode table n ≡ cond (fact table b || fact table c) (cond (fact table a) (code 15 n) none) none
-  unfolding ruleCode ruleOf statementAt statementOf
+      → guardCode table n ≡ cond (fact table b || fact table c) (cond (fact table a) (code 15 n) none) none
+  unfolding guardCode ruleCode ruleOf statementAt statementOf
   rule-19 e s t u =
       simp (e, single-fact table a s, ← fact-statement table b t, ← fact-statement table c u, neither)
       (fails-both 15 n (fact table a) (fact table b || fact table c)
       ∙ swapped (fact table a) (fact table b || fact table c) (code 15 n))
 
   pub rule-20 : kind ≡ 20 → isExpression table a ≡ true → isStatement table b ≡ true
-      → ruleCode table n ≡ cond (fact table b) (cond (fact table a) (code 16 n) none) none
-  unfolding ruleCode ruleOf statementAt statementOf
+      → guardCode table n ≡ cond (fact table b) (cond (fact table a) (code 16 n) none) none
+  unfolding guardCode ruleCode ruleOf statementAt statementOf
   rule-20 e s t =
       simp (e, single-fact table a s, ← fact-statement table b t)
       (fails-both 16 n (fact table a) (fact table b) ∙ swapped (fact table a) (fact table b) (code 16 n))

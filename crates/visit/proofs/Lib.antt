@@ -5,4 +5,3 @@ pub mod QuickLaws
 pub mod StuckLaws
 pub mod FactLaws
 pub mod SettledLaws
-pub mod VisitLaws

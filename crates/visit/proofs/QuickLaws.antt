@@ -10,12 +10,12 @@ use lib.Dec.{leb, eqb}
 use lib.ListN.{getD}
 use borrow.Author.Tests.{ltb-true, leb-true, not-true, eqb-false, ne-eqb}
 use Rattle.rules.specs.declared.Node.{Node}
-use Rattle.rules.specs.Table.{Statement, nothing, assign, sequence, branch, loop, call, latch, collective}
+use Rattle.rules.specs.Table.{Statement, nothing, assign, sequence, branch, loop, call, latch, collective, leave}
 use Rattle.rules.specs.Table.{nodeAt, statementOf, statementAt, firstStatement, lastExpression, lastStatement}
 use Rattle.rules.specs.WellFormed.{isExpression, isStatement, kindKnown, unnamedZero, nodeFits, partsAt, occurrences}
 use Rattle.rules.proofs.AnswerLaws.{both-left, both-right}
 use Rattle.rules.proofs.ChoiceLaws.{bool-cases}
-use Rattle.rules.proofs.KindLaws.{call-of}
+use Rattle.rules.proofs.KindLaws.{call-of, by-kind}
 use Rattle.table.specs.declared.Header.{Header}
 use Rattle.table.specs.Marks.{bitAt, withBit, withBits}
 use Rattle.table.specs.Roles.{roles, digit, roleOf, isPart, fieldZero, fieldFits, fieldParts}
@@ -29,7 +29,7 @@ use Rattle.table.proofs.UseLaws.{bits-append, occurrences-append}
 use Rattle.visit.specs.declared.Visit.{Visit}
 use Rattle.visit.specs.Exact.{notedCode, repeatedCode}
 use Rattle.visit.specs.Fields.{enclosed, fieldFree, distinct, fieldsFree, threeParts, Used}
-use Rattle.visit.specs.Visited.{Quick}
+use Rattle.visit.specs.Quick.{Quick}
 
 pub codes-append : (m : List ℕ) (best : ℕ) (a b : List ℕ)
     → repeatedCode m best (a ++ b) ≡ repeatedCode (withBits m a) (repeatedCode m best a) b
@@ -220,24 +220,14 @@ isCall (loop a b) = false
 isCall (call q) = true
 isCall (latch a b) = false
 isCall (collective k) = false
+isCall leave = false
 
-module _ (m : Node) (other : m .kind ≡ 21 → ⊥) where
-  no-call-at : (i : ℕ) → m .kind - firstStatement ≡ i → isCall (statementOf m) ≡ false
-  unfolding statementOf
-  no-call-at zero e = rw e
-  no-call-at (suc zero) e = rw e
-  no-call-at (suc (suc zero)) e = rw e
-  no-call-at (suc (suc (suc zero))) e = rw e
-  no-call-at (suc (suc (suc (suc zero)))) e = rw e
-  no-call-at (suc (suc (suc (suc (suc zero))))) e = absurd (other (omega arith))
-  no-call-at (suc (suc (suc (suc (suc (suc zero)))))) e = rw e
-  no-call-at (suc (suc (suc (suc (suc (suc (suc zero))))))) e = rw e
-  no-call-at (suc (suc (suc (suc (suc (suc (suc (suc zero)))))))) e = rw e
-  no-call-at (suc (suc (suc (suc (suc (suc (suc (suc (suc zero))))))))) e = rw e
-  no-call-at (suc (suc (suc (suc (suc (suc (suc (suc (suc (suc i)))))))))) e = rw e
-
-  no-call : (q : ℕ) → statementOf m ≡ call q → ⊥
-  no-call q e = never (sym (ap isCall e) ∙ no-call-at (m .kind - firstStatement) refl)
+no-call : (m : Node) → (m .kind ≡ 21 → ⊥) → (q : ℕ) → statementOf m ≡ call q → ⊥
+no-call m other q e =
+    let none : isCall (statementOf m) ≡ false =
+    by-kind (λ s. isCall s ≡ false) m (λ h. refl) (λ h. refl) (λ h. refl) (λ h. refl) (λ h. absurd (other h)) (λ h. refl)
+    (λ h. refl) (λ h. refl) (λ h. refl) (λ h. refl) refl in
+    never (sym (ap isCall e) ∙ none)
 
 call-role : {kind : ℕ} → kind ≡ 21 → roleOf kind 100 ≡ 4
 unfolding roleOf roles
@@ -400,3 +390,7 @@ module _ (kind : ℕ) where
   pub named-24 : kind ≡ 24 → Named kind 122
   unfolding roles
   named-24 = named-as 24 refl
+
+  pub named-26 : kind ≡ 26 → Named kind 0
+  unfolding roles
+  named-26 = named-as 26 refl

@@ -3,7 +3,7 @@ use mathlib.Core.Bool.{Bool, true, false, cond, not, _&&_, _||_}
 use mathlib.Core.List.{List}
 use mathlib.Core.Logic.{_⊎_, ⊎-elim}
 use mathlib.Core.Path.{_≡_, refl, sym, _∙_, ap}
-use Prim.Native.Nat.{ℕ, _+_, _%_, _<_}
+use Prim.Native.Nat.{ℕ, _+_, _%_, _≤_, _<_}
 use native.Mathlib.Omega.{arith}
 use lib.Dec.{leb, ltb, eqb}
 use lib.ListN.{length}
@@ -22,31 +22,31 @@ use Rattle.table.proofs.BitLaws.{length-withBit}
 use Rattle.table.proofs.FittingLaws.{fields-fit}
 use Rattle.table.proofs.TestLaws.{never}
 use Rattle.visit.specs.declared.Visit.{Visit}
-use Rattle.visit.specs.Facts.{fact, ruleCode, FactsTo, sourced, ruled, Settled}
-use Rattle.visit.specs.Fields.{factsPlane}
+use Rattle.visit.specs.Facts.{fact, guardCode, FactsTo, sourced, ruled, Settled}
+use Rattle.visit.specs.Fields.{factsPlane, allPlanes}
 use Rattle.visit.specs.Least.{none, code}
 use Rattle.visit.proofs.FactLaws.{once, fact-as, fact-1, fact-5, fact-operation, fact-17, fact-18, fact-19, fact-20}
 use Rattle.visit.proofs.FactLaws.{fact-24, facts-more, rule-none, rule-17, rule-19, rule-20, rule-24}
 use Rattle.visit.proofs.LeastLaws.{passed, failed}
-use Rattle.visit.proofs.PlaneLaws.{facts-length, used-put-facts, facts-put-facts, length-put-facts}
+use Rattle.visit.proofs.PlaneLaws.{facts-length, used-put-facts, facts-put-facts, leaves-put-facts, length-put-facts}
 
 -- the answers of `settled`
 module _ (table : List ℕ) (v : Visit) (m : Node) (used : Bool) (source question guard : ℕ) (before : List ℕ)
-    (size : length before ≡ 16) where
+    (size : length before ≡ allPlanes) where
   abbrev found : Bool
   found = sourced table (factsPlane before) m source
 
   pub settled-stuck : not used ≡ true → Settled table v m used source question guard before before 0
   settled-stuck u =
       let e = not-true used u in
-      record { answer = simp e; marks = refl; facts = simp e; same = λ _. refl; size = size }
+      record { answer = simp e; marks = refl; leaves = refl; facts = simp e; same = λ _. refl; size = size }
 
   pub settled-unjudged : not used ≡ false → not (v .judged) ≡ true
       → Settled table v m used source question guard before before none
   settled-unjudged u w =
       let e = not-false used u in
       let j = not-true (v .judged) w in
-      record { answer = simp (e, j); marks = refl; facts = simp (e, j); same = λ _. refl; size = size }
+      record { answer = simp (e, j); marks = refl; leaves = refl; facts = simp (e, j); same = λ _. refl; size = size }
 
   -- t is what `fact_from` answered
   module _ {t : Bool} (u : not used ≡ false) (w : not (v .judged) ≡ false) (from : t ≡ found) where
@@ -55,7 +55,7 @@ module _ (table : List ℕ) (v : Visit) (m : Node) (used : Bool) (source questio
         let e = not-false used u in
         let j = not-false (v .judged) w in
         let f = failed from h in
-        record { answer = simp (e, j, f); marks = refl; facts = simp (e, j, f); same = λ _. refl; size = size }
+        record { answer = simp (e, j, f); marks = refl; leaves = refl; facts = simp (e, j, f); same = λ _. refl; size = size }
 
     pub settled-marked : not t ≡ false → (words : List ℕ) (r : ℕ) → words ≡ withBit (factsPlane before) (v .node)
         → r ≡ ruled (bitAt (factsPlane before) (guard % 256)) question (v .node)
@@ -68,6 +68,7 @@ module _ (table : List ℕ) (v : Visit) (m : Node) (used : Bool) (source questio
         record {
           answer = simp (e, j, f) q;
           marks = used-put-facts before size words many;
+          leaves = leaves-put-facts before size words many;
           facts = facts-put-facts before size words many ∙ simp (e, j, f) made;
           same = λ unused. never (sym e ∙ unused);
           size = length-put-facts before size words many;
@@ -76,7 +77,7 @@ module _ (table : List ℕ) (v : Visit) (m : Node) (used : Bool) (source questio
 -- a source gives the fact of node n, and a question with its guard the refusal by the node's rule
 pub record Judges (table : List ℕ) (n : ℕ) (facts : List ℕ) (source question guard : ℕ) : Type 0 where
   pub fact-is : sourced table facts (nodeAt table n) source ≡ fact table n
-  pub rule-is : cond (fact table n) (ruled (bitAt facts (guard % 256)) question n) none ≡ ruleCode table n
+  pub rule-is : cond (fact table n) (ruled (bitAt facts (guard % 256)) question n) none ≡ guardCode table n
 
 either-way : (b : Bool) (r : ℕ) → cond b r r ≡ r
 either-way true r = refl
@@ -140,20 +141,20 @@ module _ (table : List ℕ) (n : ℕ) (header : Header) (facts : List ℕ) (size
 
   -- a node with no rule, and one whose rule fails where it has an effect and its guard is not single
 
-  quiet : (k : ℕ) → kind ≡ k → asked k ≡ false → ruleCode table n ≡ none
+  quiet : (k : ℕ) → kind ≡ k → asked k ≡ false → guardCode table n ≡ none
   unfolding asked
   quiet k e f =
       let other : (i : ℕ) → asked i ≡ true → kind ≡ i → ⊥ = λ i t h. never (sym t ∙ ap asked (sym h ∙ e) ∙ f) in
       rule-none table n (other 17 refl) (other 19 refl) (other 20 refl) (other 24 refl)
 
-  plain : (source guard : ℕ) → ruleCode table n ≡ none → sourced table facts (nodeAt table n) source ≡ fact table n
+  plain : (source guard : ℕ) → guardCode table n ≡ none → sourced table facts (nodeAt table n) source ≡ fact table n
       → Judges table n facts source 0 guard
   unfolding ruled
   plain source guard r f = record { fact-is = f; rule-is = rw r (either-way (fact table n) none) }
 
   guarded : (source question guard : ℕ) {sort : Bool} → eqb question 0 ≡ false → Part sort guard
       → sourced table facts (nodeAt table n) source ≡ fact table n
-      → ruleCode table n ≡ cond (fact table n) (cond (fact table guard) (code question n) none) none
+      → guardCode table n ≡ cond (fact table n) (cond (fact table guard) (code question n) none) none
       → Judges table n facts source question guard
   unfolding ruled
   guarded source question guard q p f r = record { fact-is = f; rule-is = simp (q, p .bit, r) }
@@ -262,6 +263,10 @@ module _ (table : List ℕ) (n : ℕ) (header : Header) (facts : List ℕ) (size
       let p = expression c (c-fits 24 e) in
       guarded 1 14 c refl p (sym (fact-24 table n e)) (rw (fact-24 table n e) (rule-24 table n e (p .sorted)))
 
+  pub judges-26 : kind ≡ 26 → Judges table n facts 0 0 a
+  unfolding sourced asked once
+  judges-26 e = plain 0 a (quiet 26 e refl) (sym (fact-as table n 26 e))
+
 -- what `settled` answers and keeps, in these terms
 
 some-rule : (local : Bool) (question n : ℕ) → ruled local question n ≡ 0 → ⊥
@@ -274,11 +279,33 @@ some-rule local question n =
     (bool-cases local))
     (bool-cases (eqb question 0))
 
+ruled-high : (local : Bool) (question n : ℕ) → question < 17 → n < 256 → ruled local question n ≤ none
+unfolding ruled
+ruled-high local question n asked few =
+    ⊎-elim (λ (z : eqb question 0 ≡ true). simp z (omega arith))
+    (λ (z : eqb question 0 ≡ false).
+    ⊎-elim (λ (l : local ≡ true). simp (z, l) (omega arith)) (λ (l : local ≡ false). simp (z, l) (omega arith))
+    (bool-cases local))
+    (bool-cases (eqb question 0))
+
 module _ (table : List ℕ) (v : Visit) (m : Node) (used : Bool) (source question guard : ℕ) (before after : List ℕ) (r : ℕ)
     (s : Settled table v m used source question guard before after r) where
   pub settled-used : (r ≡ 0 → ⊥) → used ≡ true
   settled-used h =
       ⊎-elim (λ (e : used ≡ true). e) (λ (e : used ≡ false). absurd (h (s .answer ∙ simp e))) (bool-cases used)
+
+  pub settled-high : question < 17 → v .node < 256 → r ≤ none
+  settled-high asked few =
+      let high = ruled-high (bitAt (factsPlane before) (guard % 256)) question (v .node) asked few in
+      rw (s .answer)
+      (⊎-elim
+      (λ (e : used ≡ true).
+      ⊎-elim
+      (λ (f : (v .judged && sourced table (factsPlane before) m source) ≡ true). simp (e, f) high)
+      (λ (f : (v .judged && sourced table (factsPlane before) m source) ≡ false). simp (e, f) (omega arith))
+      (bool-cases (v .judged && sourced table (factsPlane before) m source)))
+      (λ (e : used ≡ false). simp e (omega arith))
+      (bool-cases used))
 
   pub settled-unused : r ≡ 0 → used ≡ false
   settled-unused h =
@@ -296,7 +323,7 @@ module _ (table : List ℕ) (v : Visit) (m : Node) (used : Bool) (source questio
   pub settled-judged : m ≡ nodeAt table (v .node) → used ≡ true → v .judged ≡ true → v .node < 256
       → FactsTo table (v .node) (factsPlane before)
       → Judges table (v .node) (factsPlane before) source question guard
-      → FactsTo table (v .node + 1) (factsPlane after) × (r ≡ ruleCode table (v .node))
+      → FactsTo table (v .node + 1) (factsPlane after) × (r ≡ guardCode table (v .node))
   settled-judged here e j l known judges =
       let found : sourced table (factsPlane before) m source ≡ fact table (v .node) = rw here (judges .fact-is) in (
         facts-more table (v .node) (factsPlane before) (factsPlane after) l known (s .facts ∙ simp (e, j, found)),

@@ -8,10 +8,10 @@ use lib.ListN.{length, getD}
 use Rattle.rules.specs.Acceptance.{ruleOf, bodyFlagged}
 use Rattle.rules.specs.Judgement.{single, effect}
 use Rattle.rules.specs.declared.Node.{Node}
-use Rattle.rules.specs.Table.{flagged, effectFlag, statementAt}
+use Rattle.rules.specs.Table.{flagged, effectFlag, nodeAt, statementAt}
 use Rattle.table.specs.Marks.{bitAt, withBit}
 use Rattle.visit.specs.declared.Visit.{Visit}
-use Rattle.visit.specs.Fields.{usedPlane, factsPlane, allPlanes, planeWords}
+use Rattle.visit.specs.Fields.{usedPlane, factsPlane, leavesPlane, allPlanes, planeWords}
 use Rattle.visit.specs.Least.{none, code, failure}
 
 -- what the sweep keeps of a node for questions 13 to 17: an expression that is not single, or a statement with a global effect.
@@ -22,6 +22,13 @@ fact table n = not (single table n) || effect table n
 -- the least refusal of 13 to 16 at node n
 unfoldable pub ruleCode : List ℕ → ℕ → ℕ
 ruleCode table n = failure (ruleOf table (statementAt table n) .question) n (ruleOf table (statementAt table n) .holds)
+
+-- the same where it is not looked at whether a while is left locally
+unfoldable pub guardCode : List ℕ → ℕ → ℕ
+guardCode table n =
+    cond (eqb (nodeAt table n .kind) 20)
+    (failure 16 n (single table (nodeAt table n .a) || not (effect table (nodeAt table n .b))))
+    (ruleCode table n)
 
 -- and of 17 at procedure p
 unfoldable pub flagCode : List ℕ → ℕ → ℕ
@@ -70,5 +77,6 @@ pub record Settled (table : List ℕ) (v : Visit) (m : Node) (used : Bool) (sour
   pub facts : factsPlane after
       ≡ cond (used && (v .judged && sourced table (factsPlane before) m source)) (withBit (factsPlane before) (v .node))
       (factsPlane before)
+  pub leaves : leavesPlane after ≡ leavesPlane before
   pub same : used ≡ false → after ≡ before
   pub size : length after ≡ allPlanes

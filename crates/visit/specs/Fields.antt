@@ -2,7 +2,7 @@
 use mathlib.Core.Bool.{Bool, true, false, cond, not, _&&_, _||_}
 use mathlib.Core.List.{List, _++_}
 use mathlib.Core.Path.{_≡_}
-use Prim.Native.Nat.{ℕ, _*_}
+use Prim.Native.Nat.{ℕ, _+_, _*_}
 use lib.Dec.{leb, ltb, eqb}
 use lib.ListN.{length, take, drop}
 use Rattle.rules.specs.declared.Node.{Node}
@@ -45,22 +45,29 @@ pub record Used (table : List ℕ) (v : Visit) (m : Node) (roles : ℕ) (before 
   pub free : fieldsFree table before v m roles ≡ true
   pub used : after ≡ withBits before (threeParts m roles)
 
--- a plane has a bit for each of 256 nodes; of the planes the first has the nodes used, the second the facts
+-- a plane has a bit for each of 256 nodes; of the planes the first has the nodes used, the second the facts, the third the leaves
 abbrev pub planeWords : ℕ
 planeWords = 8
 
+abbrev pub leavesFrom : ℕ
+leavesFrom = 2 * planeWords
+
 abbrev pub allPlanes : ℕ
-allPlanes = 2 * planeWords
+allPlanes = leavesFrom + planeWords
 
 abbrev pub usedPlane : List ℕ → List ℕ
 usedPlane planes = take planeWords planes
 
 abbrev pub factsPlane : List ℕ → List ℕ
-factsPlane planes = drop planeWords planes
+factsPlane planes = take planeWords (drop planeWords planes)
+
+abbrev pub leavesPlane : List ℕ → List ℕ
+leavesPlane planes = drop leavesFrom planes
 
 pub record Fields (table : List ℕ) (v : Visit) (m : Node) (roles : ℕ) (before after : List ℕ) (r : Bool) : Type 0 where
   pub answer : r ≡ fieldsFree table (usedPlane before) v m roles
   pub taken : r ≡ true → Used table v m roles (usedPlane before) (usedPlane after)
   pub same : r ≡ false → after ≡ before
   pub facts : factsPlane after ≡ factsPlane before
+  pub leaves : leavesPlane after ≡ leavesPlane before
   pub size : length after ≡ allPlanes

@@ -3,4 +3,4 @@ pub mod Least
 pub mod Exact
 pub mod Fields
 pub mod Facts
-pub mod Visited
+pub mod Quick

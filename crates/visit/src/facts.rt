@@ -8,8 +8,8 @@ ghost use Rattle.table.specs.Marks.{bitAt};
 ghost use Rattle.table.specs.Sized.{Sized};
 ghost use Rattle.visit.specs.Facts.{sourced, Settled, ruled};
 ghost use Rattle.visit.specs.Fields.{factsPlane, allPlanes};
+use crate::LEAVES;
 use crate::PLANE;
-use crate::PLANES;
 use crate::STUCK;
 use crate::Visit;
 use crate::least::NONE;
@@ -21,32 +21,32 @@ use table::words::effect_flag;
 use table::words::flagged;
 
 // Where a node's fact comes from.
-pub(crate) const NEVER: u16 = 0;
+pub const NEVER: u16 = 0;
 
-pub(crate) const ALWAYS: u16 = 1;
+pub const ALWAYS: u16 = 1;
 
-pub(crate) const UNFLAGGED: u16 = 2;
+pub const UNFLAGGED: u16 = 2;
 
-pub(crate) const FLAGGED: u16 = 3;
+pub const FLAGGED: u16 = 3;
 
-pub(crate) const CALLED: u16 = 4;
+pub const CALLED: u16 = 4;
 
-pub(crate) const OF_A: u16 = 5;
+pub const OF_A: u16 = 5;
 
-pub(crate) const OF_B: u16 = 6;
+pub const OF_B: u16 = 6;
 
-pub(crate) const OF_A_OR_B: u16 = 7;
+pub const OF_A_OR_B: u16 = 7;
 
-pub(crate) const OF_B_OR_C: u16 = 8;
+pub const OF_B_OR_C: u16 = 8;
 
 // The question of a node that is put to none of 13 to 16.
-pub(crate) const UNRULED: usize = 0;
+pub const UNRULED: usize = 0;
 
-fn fact(planes: &[u32], n: u32) -> bool
+pub fn fact(planes: &[u32], n: u32) -> bool
     requires { ⌜ length (now planes) ≡ allPlanes ⌝ }
     ensures { λ r. ⌜ r ≡ bitAt (factsPlane (now (planes .entry))) (n % 256) ⌝ }
 {
-    marked(&planes[PLANE..PLANES], (n % 256) as usize)
+    marked(&planes[PLANE..LEAVES], (n % 256) as usize)
 }
 
 fn either(planes: &[u32], a: u32, b: u32) -> bool
@@ -77,7 +77,7 @@ fn fact_from(table: &[u8], planes: &[u32], visit: Visit, node: Node, source: u16
 }
 
 // The fact of a node whose fields passed, and the refusal by its rule: `question`, whose guard is the expression named.
-pub(crate) fn settled(
+pub fn settled(
     used: bool,
     table: &[u8],
     planes: &mut [u32],
@@ -101,7 +101,7 @@ pub(crate) fn settled(
         return NONE;
     }
     let local = fact(planes, guard);
-    mark(&mut planes[PLANE..PLANES], visit.node);
+    mark(&mut planes[PLANE..LEAVES], visit.node);
     ruled(local, question, visit.node)
 }
 

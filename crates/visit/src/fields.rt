@@ -111,7 +111,7 @@ fn take_fields(table: &[u8], marks: &mut [u32], visit: Visit, node: Node, roles:
 }
 
 // The plane of the nodes used is the first of the planes.
-pub(crate) fn fields(table: &[u8], planes: &mut [u32], visit: Visit, node: Node, roles: u16) -> bool
+pub fn fields(table: &[u8], planes: &mut [u32], visit: Visit, node: Node, roles: u16) -> bool
     requires { ⌜ Sized (now table) (visit .header) × (visit .node < visit .header .nodes) × (length (now planes) ≡ allPlanes) ⌝ }
     ensures { λ r. ⌜ Fields (now (table .entry)) visit node roles (now (planes .entry)) (now (planes .exit)) r ⌝ }
 {

@@ -17,6 +17,17 @@ pub fn worse(best: usize, number: usize, place: usize) -> usize
     if found < best { found } else { best }
 }
 
+// Most nodes have no refusal, and then nothing is compared.
+pub fn lesser(rule: usize, found: usize) -> usize
+    requires { ⌜ rule ≤ none ⌝ }
+    ensures { λ r. ⌜ r ≡ min rule found ⌝ }
+{
+    if found == NONE {
+        return rule;
+    }
+    if found < rule { found } else { rule }
+}
+
 pub fn verdict(best: usize) -> Verdict
     requires { ⌜ best ≤ none ⌝ }
     ensures { λ r. ⌜ r ≡ verdictOf best ⌝ }

@@ -1,12 +1,11 @@
-// A node of a table put to its questions: 7, 8, 9, 11 as far as its parts were used before, and 13 to 16. `quick` tells a node at
-// which nothing fails, in one match on its kind; what it is stuck at is put to `exact`.
+// What a visit of a node puts to its questions: 7, 8, 9, 11 as far as its parts were used before, and 13 to 16. The fields and the
+// fact of a node at which nothing fails, for crate `quick`; what that is stuck at is put to `exact`.
 use table::Header;
 
 pub mod exact; // exact.rt: what exactly fails at a node
-mod facts; // facts.rt: what questions 13 to 17 go by, a bit a node
-mod fields; // fields.rt: the fields of a node at which nothing fails
+pub mod facts; // facts.rt: what questions 13 to 17 go by, a bit a node
+pub mod fields; // fields.rt: the fields of a node at which nothing fails
 pub mod least; // least.rt: refusals as numbers
-pub mod quick; // quick.rt: a node at which nothing fails
 
 // A visit of a node: its parts lie from `low` on, and it calls procedures below `limit`; it is put to 13 to 16 if it is judged.
 pub struct Visit {
@@ -17,10 +16,12 @@ pub struct Visit {
     pub judged: bool,
 }
 
-// The words of a plane, a bit for each of 256 nodes, and of the planes: the nodes used, and the facts.
+// The words of a plane, a bit for each of 256 nodes, and of the planes: the nodes used, the facts, and the leaves.
 pub const PLANE: usize = 8;
 
-pub const PLANES: usize = 2 * PLANE;
+pub const LEAVES: usize = 2 * PLANE;
+
+pub const PLANES: usize = LEAVES + PLANE;
 
 // The answer of a visit that could not be made; any other is the least refusal by the node's rule.
 pub const STUCK: usize = 0;

@@ -6,16 +6,30 @@ use finchchaise_samples::Builder;
 const OWN: u32 = 0;
 const SINGLE: u32 = 1;
 pub const VARIABLES: usize = 2;
+/// Nodes of a loop that is left early.
+const SEARCH: usize = 10;
+
+/// Adds a statement of at most so many nodes, 3 or more; the last number says whose turn it is.
+type Piece = fn(&mut Builder, usize, usize) -> u32;
 
 /// An accepted table with this many nodes and procedures. A procedure that has one node left over
 /// calls the one below it; the main one repeats its body for ever if it has the nodes for that.
 pub fn table(nodes: usize, procedures: usize) -> Builder {
+    table_of(nodes, procedures, piece)
+}
+
+/// The same, with loops that are left early.
+pub fn left_early(nodes: usize, procedures: usize) -> Builder {
+    table_of(nodes, procedures, search_or_piece)
+}
+
+fn table_of(nodes: usize, procedures: usize, piece: Piece) -> Builder {
     let mut table = Builder::new(VARIABLES as u32, &[SINGLE]);
     for number in 1..=procedures {
         let share = nodes * number / procedures - table.nodes.len();
         let body = match number == procedures && share > 2 {
-            true => endless(&mut table, share),
-            false => filled(&mut table, share, number),
+            true => endless(&mut table, share, piece),
+            false => filled(&mut table, share, number, piece),
         };
         table.procedure(body, true);
     }
@@ -27,14 +41,14 @@ pub fn out_of_order(table: &Builder) -> Builder {
     renumber(table, &mut Random::new(1))
 }
 
-fn endless(table: &mut Builder, nodes: usize) -> u32 {
+fn endless(table: &mut Builder, nodes: usize, piece: Piece) -> u32 {
     let condition = table.count();
-    let body = filled(table, nodes - 2, 0);
+    let body = filled(table, nodes - 2, 0, piece);
     table.repeat(condition, body)
 }
 
 /// A statement of just so many nodes, which begins with the piece whose turn it is.
-fn filled(table: &mut Builder, nodes: usize, turn: usize) -> u32 {
+fn filled(table: &mut Builder, nodes: usize, turn: usize, piece: Piece) -> u32 {
     let called = table.procedures.len() as u32;
     match nodes {
         1 if called > 0 => table.call(called - 1),
@@ -46,13 +60,13 @@ fn filled(table: &mut Builder, nodes: usize, turn: usize) -> u32 {
             let before = table.nodes.len();
             let first = piece(table, nodes - 2, turn);
             let taken = table.nodes.len() - before;
-            let second = filled(table, nodes - 1 - taken, turn + 1);
+            let second = filled(table, nodes - 1 - taken, turn + 1, piece);
             table.sequence(first, second)
         }
     }
 }
 
-/// One of six statements in turn, of at most `most` nodes, which is 3 or more.
+/// One of six statements in turn.
 fn piece(table: &mut Builder, most: usize, turn: usize) -> u32 {
     match turn % 6 {
         0 if most >= 4 => table.increase(OWN),
@@ -62,6 +76,25 @@ fn piece(table: &mut Builder, most: usize, turn: usize) -> u32 {
         4 => look_at_door(table),
         _ => latch(table),
     }
+}
+
+/// A search wherever there is room, else what has its turn.
+fn search_or_piece(table: &mut Builder, most: usize, turn: usize) -> u32 {
+    match most >= SEARCH {
+        true => search(table),
+        false => piece(table, most, turn),
+    }
+}
+
+/// Looks for a door whose word is 0, from the one that is due, and leaves the loop there.
+fn search(table: &mut Builder) -> u32 {
+    let always = table.count();
+    let door = table.variable(OWN);
+    let is_occupied = table.door(door);
+    let next = table.increase(OWN);
+    let found = table.leave();
+    let look = table.choose(is_occupied, next, found);
+    table.repeat(always, look)
 }
 
 fn exchange(table: &mut Builder) -> u32 {

@@ -38,6 +38,8 @@ pub fn all() -> Vec<Refused> {
         refused(11, ", node never used", with_node(252, [23, 0, 0, 0])),
         refused(12, "", calling.bytes()),
         refused(12, ", out of order", mixed.bytes()),
+        // The last call leaves, in a procedure that has no loop.
+        refused(26, "", with_node(219, [26, 0, 0, 0])),
         // The single variable takes a sum that is not.
         refused(13, "", with_node(244, [17, 1, 243, 0])),
         // The last broadcast's value and source change places.

@@ -73,9 +73,11 @@ pub fn all() -> Vec<Work> {
         all.extend([16, 64, 256].map(|nodes| Work::check(nodes, procedures)));
     }
     all.push(Work::check_out_of_order());
+    all.push(Work::check_left_early());
     for (nodes, procedures) in [(16, 1), (256, 16)] {
         all.extend([1, 4, 16].map(|processes| Work::step(nodes, procedures, processes)));
     }
+    all.push(Work::step_left_early());
     all.push(Work::idle());
     all.extend([2, 4, 16].map(Work::run));
     all.extend(refused::all().into_iter().map(Work::refused_check));
@@ -118,6 +120,11 @@ impl Work {
         Work::check_of(format!("{FULL_CHECK}, out of order"), table.bytes())
     }
 
+    fn check_left_early() -> Work {
+        let table = inputs::left_early(256, 16);
+        Work::check_of(format!("{FULL_CHECK}, loops left early"), table.bytes())
+    }
+
     fn refused_check(refused: Refused) -> Work {
         let Refused { number, how, table } = refused;
         let what = format!("check refused by {number}, N 256, P 16{how}");
@@ -129,10 +136,18 @@ impl Work {
 
     fn step(nodes: usize, procedures: usize, processes: u32) -> Work {
         let what = format!("step, N {nodes}, P {procedures}, processes {processes}");
-        let table = inputs::table(nodes, procedures).bytes();
+        Work::step_of(what, inputs::table(nodes, procedures).bytes(), processes)
+    }
+
+    fn step_of(what: String, table: Vec<u8>, processes: u32) -> Work {
         let mut work = Work::new(what, Task::Step, table, inputs::VARIABLES, processes);
         work.start(LIBRARY);
         work
+    }
+
+    fn step_left_early() -> Work {
+        let what = "step, N 256, P 16, processes 4, loops left early".to_string();
+        Work::step_of(what, inputs::left_early(256, 16).bytes(), 4)
     }
 
     /// The most that a step can have to read: every stack is full. Process 0 waits, so nothing

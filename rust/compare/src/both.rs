@@ -1,6 +1,7 @@
 //! Calls of the library and of the model on copies of the same buffers. Answers and every word
 //! afterwards must be equal, or the call panics with what it was given.
 
+use crate::leaves::{self, leaving};
 use crate::words;
 use finchchaise::{Answer, Refusal};
 use std::fmt::Debug;
@@ -20,6 +21,10 @@ impl Lent {
     fn words(&mut self) -> &mut [u32] {
         let end = self.0.len() - MARGIN;
         &mut self.0[MARGIN..end]
+    }
+
+    fn lent(&self) -> &[u32] {
+        &self.0[MARGIN..self.0.len() - MARGIN]
     }
 
     /// Where the buffers first differ, counted from the first lent word, and what they hold there.
@@ -89,6 +94,16 @@ impl Team<'_> {
             library: buffers.clone(),
             model: buffers,
         }
+    }
+
+    /// The stack of a process, which both have alike.
+    pub fn stack(&self, process: u32) -> &[u32] {
+        leaves::stack(self.model.state.lent(), process).unwrap_or(&[])
+    }
+
+    /// The same, if a leave is on top.
+    pub fn leaving(&self, process: u32) -> Option<Vec<u32>> {
+        leaving(self.table, self.model.state.lent(), process).map(<[u32]>::to_vec)
     }
 
     pub fn start(&mut self, processes: u32, start_words: &[u32]) -> Result<(), Refusal> {

@@ -1,10 +1,8 @@
 //! Tables that are wrong in some way, and bytes that were never a table.
 
 use crate::random::Random;
-use crate::shape::{fields, is_statement, parts, Field, KINDS};
+use crate::shape::{fields, is_statement, parts, Field, BARRIER, CALL, KINDS, LEAVE, NOTHING};
 use finchchaise_samples::{bytes, Builder};
-
-const CALL: u32 = 21;
 
 /// The table's bytes with one or two changes.
 pub fn damaged(table: &Builder, random: &mut Random) -> Vec<u8> {
@@ -44,29 +42,28 @@ fn damage_procedure(table: &Builder, words: &mut [u32], random: &mut Random) {
 }
 
 fn damage_node(table: &Builder, words: &mut [u32], random: &mut Random) {
-    let first = 2 + table.procedures.len();
-    let (node, other) = (
-        first + random.below(table.nodes.len()),
-        first + random.below(table.nodes.len()),
-    );
-    let word = words[node];
+    let nodes = &mut words[2 + table.procedures.len()..];
+    let (node, other) = (random.below(nodes.len()), random.below(nodes.len()));
+    let word = nodes[node];
     let called = random.from(0, table.procedures.len()) as u32;
-    let replaced = match random.below(12) {
+    nodes[node] = match random.below(14) {
         0 => (random.below(32) as u32) << 27 | word & 0x7FF_FFFF,
         1 => random.pick(&KINDS) << 27 | word & 0x7FF_FFFF,
         2 => random.number() as u32,
-        3 => return words.swap(node, other),
-        4..=6 => return replace_calls(&mut words[first..], called, random),
-        _ => damaged_field(word, table.nodes.len(), random),
+        3 => return nodes.swap(node, other),
+        4..=6 => return replace_some(nodes, &[CALL], CALL << 27 | called << 18, random),
+        7 | 8 => return replace_some(nodes, &[NOTHING, BARRIER], LEAVE << 27, random),
+        _ => damaged_field(word, nodes.len(), random),
     };
-    words[node] = replaced;
 }
 
-/// Some calls go to another procedure, often not a lower one.
-fn replace_calls(nodes: &mut [u32], called: u32, random: &mut Random) {
-    for node in nodes.iter_mut().filter(|node| **node >> 27 == CALL) {
+/// Some nodes of these kinds become another one: calls go to any procedure, often not a lower one,
+/// leaves stand anywhere, often without a while around them.
+fn replace_some(nodes: &mut [u32], kinds: &[u32], replacement: u32, random: &mut Random) {
+    let replaced = |node: &&mut u32| kinds.contains(&(**node >> 27));
+    for node in nodes.iter_mut().filter(replaced) {
         if random.one_in(2) {
-            *node = CALL << 27 | called << 18;
+            *node = replacement;
         }
     }
 }

@@ -2,6 +2,7 @@
 
 use crate::order::renumber;
 use crate::random::Random;
+use crate::shape::LEAVE;
 use finchchaise_samples::Builder;
 
 /// Tables are given at most one of these numbers of nodes.
@@ -11,18 +12,20 @@ const LARGE: usize = 14;
 /// A while that counts a variable up, without its body.
 const COUNTED_LOOP: usize = 9;
 
-/// A table that keeps the rules about single values, if `careful`, and breaks some of them
-/// otherwise.
+/// A table that keeps the rules about single values and leaves, if `careful`, and breaks some of
+/// them otherwise.
 pub fn table(random: &mut Random, careful: bool) -> Builder {
     let size = random.pick(&SIZES);
     let variables = random.pick(&[1, 2, 3, 4, 4, 8, 31, 32]);
     let flags = random.number();
     let single: Vec<u32> = (0..variables).filter(|a| flags >> a & 1 == 1).collect();
+    let strays = !careful && random.one_in(10);
     let mut draft = Draft {
         random,
         table: Builder::new(variables, &single),
         effects: Vec::new(),
         careful,
+        strays,
     };
     draft.procedures(size);
     let Draft { random, table, .. } = draft;
@@ -39,6 +42,17 @@ pub(crate) struct Draft<'random> {
     /// Whether each node is a statement with a global effect.
     effects: Vec<bool>,
     careful: bool,
+    /// Whether leaves stand anywhere, also without a while around them.
+    strays: bool,
+}
+
+/// What a statement may hold where it stands, if the rules are kept.
+#[derive(Clone, Copy)]
+struct Place {
+    /// No global effect.
+    quiet: bool,
+    /// A leave.
+    leave: bool,
 }
 
 impl Draft<'_> {
@@ -56,8 +70,11 @@ impl Draft<'_> {
                     .random
                     .from(1, (2 * left / (after + 1)).min(left - after)),
             };
-            let quiet = after > 0 && self.random.one_in(3);
-            let mut body = self.statement(share, quiet);
+            let place = Place {
+                quiet: after > 0 && self.random.one_in(3),
+                leave: false,
+            };
+            let mut body = self.statement(share, place);
             if after == 0 && self.random.one_in(2) {
                 body = self.filled(size, body);
             }
@@ -113,26 +130,31 @@ impl Draft<'_> {
     }
 }
 
-/// Statements: each takes at most `budget` nodes, and has no global effect if it is to be quiet.
+/// Statements: each takes at most `budget` nodes, and has no global effect if its place is quiet.
 impl Draft<'_> {
-    fn statement(&mut self, budget: usize, quiet: bool) -> u32 {
-        let quiet = quiet && !self.slips();
+    fn statement(&mut self, budget: usize, place: Place) -> u32 {
+        let quiet = place.quiet && !self.slips();
+        let place = Place { quiet, ..place };
         let choices = if budget < LARGE { 16 } else { 8 };
         match self.random.below(choices) {
-            0..=3 if budget >= 3 => self.sequence(budget, quiet),
-            4 | 5 if budget >= 4 => self.choose(budget, quiet),
-            6 if budget > COUNTED_LOOP => self.counted_loop(budget, quiet),
+            0..=3 if budget >= 3 => self.sequence(budget, place),
+            4 | 5 if budget >= 4 => self.choose(budget, place),
+            6 if budget > COUNTED_LOOP => self.counted_loop(budget, place),
             7 if budget >= 3 && self.random.one_in(5) => self.repeat(budget, quiet),
-            7 if budget >= 3 => self.sequence(budget, quiet),
+            7 if budget >= 3 => self.sequence(budget, place),
             8 | 9 if budget >= 3 => self.latch(budget),
             10 | 11 if budget >= 3 && !quiet => self.broadcast(budget),
             12 if budget >= 2 && !quiet => self.exchange(budget),
-            13 | 14 if budget >= 2 => self.assign(budget, quiet),
-            _ => self.short(quiet),
+            13 | 14 if budget >= 2 => self.assign(budget, place),
+            _ => self.short(place),
         }
     }
 
-    fn short(&mut self, quiet: bool) -> u32 {
+    fn short(&mut self, place: Place) -> u32 {
+        let Place { quiet, .. } = place;
+        if self.leaves(place, 6) {
+            return self.leave();
+        }
         let called = self.random.below(self.table.procedures.len() + 1);
         match self.table.procedures.get(called) {
             Some(&(_, effect)) if !(effect && quiet) => self.add(21, [called as u32, 0, 0], effect),
@@ -141,10 +163,19 @@ impl Draft<'_> {
         }
     }
 
-    fn assign(&mut self, budget: usize, quiet: bool) -> u32 {
-        let single = !quiet && self.random.one_in(2);
+    /// Whether to leave here, in one of so many places where one may.
+    fn leaves(&mut self, place: Place, many: usize) -> bool {
+        (place.leave || self.strays) && self.random.one_in(many)
+    }
+
+    fn leave(&mut self) -> u32 {
+        self.add(LEAVE, [0, 0, 0], false)
+    }
+
+    fn assign(&mut self, budget: usize, place: Place) -> u32 {
+        let single = !place.quiet && self.random.one_in(2);
         let Some(variable) = self.variable(single) else {
-            return self.short(quiet);
+            return self.short(place);
         };
         let single_value = single && !self.slips();
         let value = self.expression(budget - 1, single_value);
@@ -172,10 +203,10 @@ impl Draft<'_> {
         self.add(25, [value, 0, 0], true)
     }
 
-    fn sequence(&mut self, budget: usize, quiet: bool) -> u32 {
+    fn sequence(&mut self, budget: usize, place: Place) -> u32 {
         let (first, second) = self.split(budget);
-        let first = self.statement(first, quiet);
-        let second = self.statement(second, quiet);
+        let first = self.statement(first, place);
+        let second = self.statement(second, place);
         self.sequence_of(first, second)
     }
 
@@ -184,16 +215,31 @@ impl Draft<'_> {
         self.add(18, [first, second, 0], effect)
     }
 
-    fn choose(&mut self, budget: usize, quiet: bool) -> u32 {
+    fn choose(&mut self, budget: usize, place: Place) -> u32 {
         let single = self.random.one_in(2);
         let condition = self.random.from(1, (budget - 3).min(7));
         let (then, otherwise) = self.split(budget - condition);
         let condition = self.expression(condition, single);
-        let quiet = quiet || (!single && !self.slips());
-        let then = self.statement(then, quiet);
-        let otherwise = self.statement(otherwise, quiet);
+        let place = match single {
+            true => place,
+            false => self.under_local_if(place),
+        };
+        let then = match self.leaves(place, 3) {
+            true => self.leave(),
+            false => self.statement(then, place),
+        };
+        let otherwise = self.statement(otherwise, place);
         let effect = self.effects[then as usize] || self.effects[otherwise as usize];
         self.add(19, [condition, then, otherwise], effect)
+    }
+
+    /// Where a leave may stand, the place is as quiet as the body of its while: if the rules are
+    /// kept, a loop with a global effect is not left under a local condition.
+    fn under_local_if(&mut self, place: Place) -> Place {
+        Place {
+            quiet: place.quiet || !self.slips(),
+            leave: place.leave && (place.quiet || !self.careful),
+        }
     }
 
     /// A while that may well go on for ever.
@@ -203,28 +249,35 @@ impl Draft<'_> {
         let body = budget - 1 - condition;
         let condition = self.expression(condition, single);
         let quiet = quiet || (!single && !self.slips());
-        let body = self.statement(body, quiet);
+        let body = self.statement(body, Place { quiet, leave: true });
+        self.repeat_of(condition, body)
+    }
+
+    fn repeat_of(&mut self, condition: u32, body: u32) -> u32 {
         let effect = self.effects[body as usize];
         self.add(20, [condition, body, 0], effect)
     }
 
     /// A while that ends unless its body also changes the variable.
-    fn counted_loop(&mut self, budget: usize, quiet: bool) -> u32 {
-        let single = !quiet && self.random.one_in(2);
+    fn counted_loop(&mut self, budget: usize, place: Place) -> u32 {
+        let single = !place.quiet && self.random.one_in(2);
         let Some(variable) = self.variable(single) else {
-            return self.short(quiet);
+            return self.short(place);
         };
         let rounds = self.random.from(1, 4) as u32;
         let left = self.add(1, [variable, 0, 0], false);
         let right = self.add(0, [0, 0, rounds], false);
         let condition = self.add(10, [left, right, 0], false);
-        let body = self.statement(budget - COUNTED_LOOP, quiet || !single);
+        let place = Place {
+            quiet: place.quiet || !single,
+            leave: true,
+        };
+        let body = self.statement(budget - COUNTED_LOOP, place);
         let old = self.add(1, [variable, 0, 0], false);
         let one = self.add(0, [0, 0, 1], false);
         let new = self.add(6, [old, one, 0], false);
         let next = self.add(17, [variable, new, 0], single);
         let body = self.sequence_of(body, next);
-        let effect = self.effects[body as usize];
-        self.add(20, [condition, body, 0], effect)
+        self.repeat_of(condition, body)
     }
 }

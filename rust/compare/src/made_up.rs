@@ -1,7 +1,9 @@
 //! States and rolls that no start led to: most of them sound, others not.
 
 use crate::random::Random;
-use crate::shape::{FIRST_STATEMENT, LAST_EXPRESSION, LAST_STATEMENT};
+use crate::shape::{FIRST_COLLECTIVE, FIRST_STATEMENT};
+use crate::shape::{LAST_COLLECTIVE, LAST_EXPRESSION, LAST_STATEMENT};
+use crate::tree::leaves;
 use finchchaise::{DEPTH_AT, MOST_PROCESSES, PROCESS_WORDS, ROLL_WORDS, STACK, STACK_AT};
 use finchchaise_samples::Builder;
 
@@ -18,6 +20,8 @@ pub enum Plan {
     AllThere,
     /// None runs.
     NoneRuns,
+    /// The one asked for is about to leave a loop; the others are as they come.
+    Leaving,
 }
 
 pub struct MadeUp {
@@ -26,6 +30,8 @@ pub struct MadeUp {
     /// The process to step.
     pub asked: u32,
     pub plan: Plan,
+    /// The lowest process with a leave on top and its while not below.
+    pub lost: Option<u32>,
     /// Whether words were changed that do not fit then.
     pub damaged: bool,
 }
@@ -35,22 +41,12 @@ impl MadeUp {
     pub fn new(table: &Builder, random: &mut Random) -> MadeUp {
         let count = random.pick(&[1, 1, 2, 2, 2, 3, 3, 4, 5, 8, MOST_PROCESSES]);
         let nodes = Nodes::of(table);
-        let plan = match nodes.collectives.is_empty() {
-            true => Plan::Apart,
-            false => random.pick(&[
-                Plan::Apart,
-                Plan::Apart,
-                Plan::LastMissing,
-                Plan::LastMissing,
-                Plan::AllThere,
-                Plan::NoneRuns,
-            ]),
-        };
         let mut made_up = MadeUp {
             state: random.words(count * PROCESS_WORDS),
             roll: vec![0; count * ROLL_WORDS],
             asked: random.below(count) as u32,
-            plan,
+            plan: nodes.plan(random),
+            lost: None,
             damaged: random.one_in(3),
         };
         made_up.place(&nodes, random);
@@ -72,29 +68,74 @@ impl MadeUp {
             let asked = process == self.asked as usize;
             self.fill_stack(process, nodes, random);
             match self.plan {
-                Plan::Apart if random.one_in(6) => self.end(process),
-                Plan::Apart if random.one_in(3) => self.wait_anywhere(process, nodes, random),
-                Plan::Apart => (),
+                Plan::Leaving if asked => self.leave(process, random.pick(&nodes.leaves), random),
                 Plan::LastMissing if asked => self.put_top(process, meeting),
                 Plan::LastMissing | Plan::AllThere => self.wait(process, meeting, nodes, random),
                 Plan::NoneRuns if random.one_in(3) => self.end(process),
                 Plan::NoneRuns => self.wait_anywhere(process, nodes, random),
+                Plan::Apart | Plan::Leaving => self.stand(process, nodes, random),
             }
+        }
+    }
+
+    /// Ended, waiting or running; a running process may have a leave on top.
+    fn stand(&mut self, process: usize, nodes: &Nodes, random: &mut Random) {
+        let top = *self.top(process);
+        let leave = nodes.leaves.iter().find(|(leave, _)| *leave == top);
+        match leave {
+            _ if random.one_in(6) => self.end(process),
+            _ if random.one_in(3) => self.wait_anywhere(process, nodes, random),
+            Some(&leave) => self.leave(process, leave, random),
+            None => (),
         }
     }
 
     /// Words above the depth stay random: they are not to be looked at.
     fn fill_stack(&mut self, process: usize, nodes: &Nodes, random: &mut Random) {
         let depth = random.pick(&[1, 1, 1, 2, 2, 3, 17, STACK - 1, STACK, STACK, STACK]);
-        let words = &mut self.state[process * PROCESS_WORDS..][..PROCESS_WORDS];
+        let words = self.words(process);
         words[DEPTH_AT] = depth as u32;
         for entry in &mut words[STACK_AT..STACK_AT + depth] {
             *entry = random.pick(&nodes.statements);
         }
     }
 
+    /// A leave on top; mostly with its while below.
+    fn leave(&mut self, process: usize, (leave, left): (u32, u32), random: &mut Random) {
+        self.put_top(process, leave);
+        match self.lost.is_none() && random.one_in(4) {
+            true => self.lose_while(process, left),
+            false => self.put_while(process, left, random),
+        }
+    }
+
+    /// The while stands at some heights below the leave.
+    fn put_while(&mut self, process: usize, left: u32, random: &mut Random) {
+        let leave = *self.top(process);
+        let words = self.words(process);
+        let depth = words[DEPTH_AT].max(2) as usize;
+        words[DEPTH_AT] = depth as u32;
+        words[STACK_AT + depth - 1] = leave;
+        for _ in 0..random.pick(&[1, 1, 2, 4]) {
+            words[STACK_AT + random.below(depth - 1)] = left;
+        }
+    }
+
+    /// The while stands nowhere but above the stack, where it is no entry.
+    fn lose_while(&mut self, process: usize, left: u32) {
+        self.lost = Some(process as u32);
+        let leave = *self.top(process);
+        let words = self.words(process);
+        let depth = words[DEPTH_AT] as usize;
+        let (entries, above) = words[STACK_AT..].split_at_mut(depth);
+        for entry in entries.iter_mut().filter(|entry| **entry == left) {
+            *entry = leave;
+        }
+        above.iter_mut().take(1).for_each(|place| *place = left);
+    }
+
     fn end(&mut self, process: usize) {
-        self.state[process * PROCESS_WORDS + DEPTH_AT] = 0;
+        self.words(process)[DEPTH_AT] = 0;
         self.record(process)[0] = 2;
     }
 
@@ -117,9 +158,16 @@ impl MadeUp {
     }
 
     fn put_top(&mut self, process: usize, node: u32) {
-        let words = &mut self.state[process * PROCESS_WORDS..];
-        let depth = words[DEPTH_AT] as usize;
-        words[STACK_AT + depth - 1] = node;
+        *self.top(process) = node;
+    }
+
+    fn top(&mut self, process: usize) -> &mut u32 {
+        let words = self.words(process);
+        &mut words[STACK_AT + words[DEPTH_AT] as usize - 1]
+    }
+
+    fn words(&mut self, process: usize) -> &mut [u32] {
+        &mut self.state[process * PROCESS_WORDS..][..PROCESS_WORDS]
     }
 
     fn record(&mut self, process: usize) -> &mut [u32] {
@@ -129,7 +177,7 @@ impl MadeUp {
     /// One word that may not fit, or a length.
     fn damage(&mut self, nodes: &Nodes, random: &mut Random) {
         let process = random.below(self.roll.len() / ROLL_WORDS);
-        let words = &mut self.state[process * PROCESS_WORDS..][..PROCESS_WORDS];
+        let words = self.words(process);
         let depth = words[DEPTH_AT] as usize;
         let other = nodes.no_statement(random);
         match random.below(10) {
@@ -165,6 +213,8 @@ struct Nodes {
     statements: Vec<u32>,
     collectives: Vec<u32>,
     expressions: Vec<u32>,
+    /// With the while that each ends.
+    leaves: Vec<(u32, u32)>,
 }
 
 impl Nodes {
@@ -176,9 +226,28 @@ impl Nodes {
         };
         Nodes {
             statements: of(FIRST_STATEMENT, LAST_STATEMENT),
-            collectives: of(23, LAST_STATEMENT),
+            collectives: of(FIRST_COLLECTIVE, LAST_COLLECTIVE),
             expressions: of(0, LAST_EXPRESSION),
+            leaves: leaves(&table.nodes),
             kinds,
+        }
+    }
+
+    /// A plan for which the table has the nodes.
+    fn plan(&self, random: &mut Random) -> Plan {
+        if !self.leaves.is_empty() && random.one_in(3) {
+            return Plan::Leaving;
+        }
+        match self.collectives.is_empty() {
+            true => Plan::Apart,
+            false => random.pick(&[
+                Plan::Apart,
+                Plan::Apart,
+                Plan::LastMissing,
+                Plan::LastMissing,
+                Plan::AllThere,
+                Plan::NoneRuns,
+            ]),
         }
     }
 

@@ -2,6 +2,7 @@
 
 use crate::random::Random;
 use crate::shape::parts;
+use crate::tree::{users, Node};
 use finchchaise_samples::Builder;
 
 /// The same table with its nodes in another order, parts still before the nodes that name them.
@@ -26,14 +27,9 @@ pub fn renumber(table: &Builder, random: &mut Random) -> Builder {
 
 /// Takes any node next whose parts have all been taken.
 fn order(table: &Builder, random: &mut Random) -> Vec<usize> {
-    let mut users = vec![None; table.nodes.len()];
-    let mut missing = vec![0; table.nodes.len()];
-    for (number, node) in table.nodes.iter().enumerate() {
-        for place in parts(node[0]) {
-            missing[number] += 1;
-            users[node[place] as usize] = Some(number);
-        }
-    }
+    let users = users(&table.nodes);
+    let count = |node: &Node| parts(node[0]).count();
+    let mut missing: Vec<usize> = table.nodes.iter().map(count).collect();
     let mut ready: Vec<usize> = (0..missing.len()).filter(|&n| missing[n] == 0).collect();
     let mut order = Vec::new();
     while !ready.is_empty() {

@@ -11,16 +11,28 @@ pub enum Field {
 }
 
 /// Kinds that exist.
-pub const KINDS: [u32; 23] = [
-    0, 1, 2, 3, 4, 5, 6, 7, 8, 9, 10, 11, 12, 16, 17, 18, 19, 20, 21, 22, 23, 24, 25,
+pub const KINDS: [u32; 24] = [
+    0, 1, 2, 3, 4, 5, 6, 7, 8, 9, 10, 11, 12, 16, 17, 18, 19, 20, 21, 22, 23, 24, 25, 26,
 ];
 
 pub const LAST_EXPRESSION: u32 = 12;
 pub const FIRST_STATEMENT: u32 = 16;
-pub const LAST_STATEMENT: u32 = 25;
+pub const LAST_STATEMENT: u32 = LEAVE;
+pub const FIRST_COLLECTIVE: u32 = BARRIER;
+pub const LAST_COLLECTIVE: u32 = 25;
+
+pub const NOTHING: u32 = FIRST_STATEMENT;
+pub const WHILE: u32 = 20;
+pub const CALL: u32 = 21;
+pub const BARRIER: u32 = 23;
+pub const LEAVE: u32 = 26;
 
 pub fn is_statement(kind: u32) -> bool {
     kind >= FIRST_STATEMENT
+}
+
+pub fn is_collective(kind: u32) -> bool {
+    (FIRST_COLLECTIVE..=LAST_COLLECTIVE).contains(&kind)
 }
 
 /// A, B and C.

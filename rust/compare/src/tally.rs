@@ -1,10 +1,11 @@
 //! What a comparison has covered.
 
+use crate::leaves::{self, Shown, SHOWN};
 use finchchaise::{Answer, Event, Refusal, TeamStatus};
 use std::io::Write;
 use std::{fmt, io};
 
-const NUMBERS: usize = 26;
+const NUMBERS: usize = 27;
 const EVENTS: [&str; 6] = ["moved", "finished", "arrived", "met", "waits", "ended"];
 const TEAMS: [&str; 3] = ["going", "done", "crossed"];
 
@@ -17,6 +18,8 @@ pub struct Tally {
     pub teams: [usize; 3],
     /// Refusals of teams that all wait at one node.
     pub all_there: usize,
+    /// What was shown of leaves, in the order of `SHOWN`.
+    pub leaves: [usize; SHOWN.len()],
 }
 
 impl Tally {
@@ -25,6 +28,25 @@ impl Tally {
             Ok(()) => self.taken += 1,
             Err(refusal) => self.refused[refusal.number as usize] += 1,
         }
+    }
+
+    /// A check, also of what it shows of leaves.
+    pub fn checked(&mut self, table: &[u8], answer: Result<(), Refusal>) {
+        self.judged(answer);
+        leaves::of_check(table, answer)
+            .into_iter()
+            .for_each(|shown| self.shown(shown));
+    }
+
+    /// A step that left so many entries of a stack with a leave on top.
+    pub fn left(&mut self, stack: &[u32], kept: usize) {
+        leaves::of_step(stack, kept)
+            .into_iter()
+            .for_each(|shown| self.shown(shown));
+    }
+
+    pub fn shown(&mut self, shown: Shown) {
+        self.leaves[shown as usize] += 1;
     }
 
     pub fn stepped(&mut self, answer: Result<Answer, Refusal>) {
@@ -66,6 +88,13 @@ impl Tally {
         }
     }
 
+    pub fn assert_leaves(&self, wanted: &[(Shown, usize)]) {
+        for &(shown, least) in wanted {
+            let times = self.leaves[shown as usize];
+            assert!(times >= least, "{shown:?} only {times} times: {self}");
+        }
+    }
+
     /// Not by println, which a test keeps to itself unless it fails.
     pub fn show(&self, what: &str) {
         let line = format!("compared {what}: {self}\n");
@@ -78,8 +107,9 @@ impl Tally {
 impl fmt::Display for Tally {
     fn fmt(&self, out: &mut fmt::Formatter) -> fmt::Result {
         write!(out, "{} calls, {} taken", self.calls(), self.taken)?;
-        let words = EVENTS.iter().chain(&TEAMS);
-        for (word, times) in words.zip(self.events.iter().chain(&self.teams)) {
+        let words = EVENTS.iter().chain(&TEAMS).chain(&SHOWN);
+        let times = self.events.iter().chain(&self.teams).chain(&self.leaves);
+        for (word, times) in words.zip(times) {
             if *times > 0 {
                 write!(out, ", {word} {times}")?;
             }

@@ -2,7 +2,7 @@
 
 use finchchaise::{Answer, Refusal, TeamStatus};
 use finchchaise::{DOORS, LATCHES, MOST_PROCESSES, PROCESS_WORDS, ROLL_WORDS, SCRATCH_WORDS};
-use finchchaise_compare::{check, latches, MadeUp, Plan, Random, Tally, Team};
+use finchchaise_compare::{check, latches, MadeUp, Plan, Random, Shown, Tally, Team};
 use finchchaise_compare::{damaged, random_bytes, small_table, table};
 use finchchaise_samples::Builder;
 
@@ -32,7 +32,8 @@ fn checks(what: &str, seed: u64, source: impl Fn(&mut Random) -> Vec<u8>) -> Tal
         let mut bytes = vec![0; random.below(4)];
         let offset = bytes.len();
         bytes.extend(source(&mut random));
-        tally.judged(check(&bytes[offset..], &scratch(&mut random)));
+        let table = &bytes[offset..];
+        tally.checked(table, check(table, &scratch(&mut random)));
     }
     tally.show(what);
     tally
@@ -44,6 +45,7 @@ fn checks_of_tables_that_keep_the_rules() {
         table(random, true).bytes()
     });
     assert!(tally.taken * 10 > tally.calls() * 9, "{tally}");
+    tally.assert_leaves(&[(Shown::Accepted, 5_000), (Shown::AcceptedLoud, 500)]);
 }
 
 #[test]
@@ -51,7 +53,8 @@ fn checks_of_tables_that_break_rules_on_single_values() {
     let tally = checks("checks of careless tables", 2, |random| {
         table(random, false).bytes()
     });
-    tally.assert_refused([1, 13, 14, 15, 16, 17], 500);
+    tally.assert_refused([1, 13, 14, 15, 16, 17, 26], 500);
+    tally.assert_leaves(&[(Shown::Accepted, 500), (Shown::LeftLocally, 100)]);
 }
 
 #[test]
@@ -60,13 +63,13 @@ fn checks_of_damaged_tables() {
         let careful = random.one_in(2);
         damaged(&table(random, careful), random)
     });
-    tally.assert_refused(1..=17, 50);
+    tally.assert_refused((1..=17).chain([26]), 50);
 }
 
 #[test]
 fn checks_of_small_tables() {
     let tally = checks("checks of small tables", 4, small_table);
-    tally.assert_refused([6, 8, 9, 10, 11, 12, 17], 50);
+    tally.assert_refused([6, 8, 9, 10, 11, 12, 17, 26], 50);
 }
 
 #[test]
@@ -92,6 +95,17 @@ fn start_words(table: &Builder, count: usize, equal: bool, random: &mut Random) 
     words
 }
 
+/// A step, and what it shows.
+fn step(team: &mut Team, process: u32, tally: &mut Tally) -> Result<Answer, Refusal> {
+    let leaving = team.leaving(process);
+    let answer = team.step(process);
+    tally.stepped(answer);
+    if let (Ok(_), Some(stack)) = (answer, leaving) {
+        tally.left(&stack, team.stack(process).len());
+    }
+    answer
+}
+
 #[derive(Default)]
 struct Runs {
     starts: Tally,
@@ -110,9 +124,7 @@ impl Runs {
                 true => random.word(),
                 false => random.below(count) as u32,
             };
-            let answer = team.step(process);
-            self.steps.stepped(answer);
-            match answer {
+            match step(team, process, &mut self.steps) {
                 Ok(Answer { team, .. }) => last = team,
                 Err(refusal) => assert_eq!((refusal.number, refusal.place), (22, process)),
             }
@@ -135,7 +147,12 @@ impl Runs {
         let state = random.words(count * PROCESS_WORDS);
         let roll = random.words(count * ROLL_WORDS);
         let mut team = Team::new(&bytes, &state, &roll);
-        self.starts.judged(team.start(count as u32, &words));
+        let started = team.start(count as u32, &words);
+        self.starts.judged(started);
+        // A leave without a while; the caller asserts that there is no other refusal.
+        if started.is_err() {
+            return;
+        }
         let last = self.steps(&mut team, count, random);
         let promised = equal && check(&bytes, &[1; SCRATCH_WORDS]).is_ok();
         assert!(!promised || last != TeamStatus::Deadlocked);
@@ -152,9 +169,15 @@ fn runs(what: &str, seed: u64, least: usize, counts: &[usize]) {
     }
     runs.starts.show(&format!("runs of {what} ({least} ended)"));
     runs.steps.show(&format!("steps of runs of {what}"));
-    assert_eq!(runs.starts.taken, runs.starts.calls());
+    assert_eq!(
+        runs.starts.taken + runs.starts.refused[26],
+        runs.starts.calls()
+    );
+    runs.starts.assert_refused([26], 20);
     assert!(runs.steps.teams[2] > 200, "{}", runs.steps);
     runs.steps.assert_events(2_000);
+    let leaves = [Shown::Left, Shown::PastOthers, Shown::Finished];
+    runs.steps.assert_leaves(&leaves.map(|shown| (shown, 200)));
 }
 
 #[test]
@@ -206,24 +229,23 @@ fn starts_that_may_be_refused() {
     }
     tally.show("starts");
     assert!(tally.taken > STARTS / 10, "{tally}");
-    tally.assert_refused([2, 3, 4, 5, 6, 7, 8, 9, 10, 11, 12, 18, 19, 20, 21], 50);
+    tally.assert_refused((2..=12).chain(18..=21).chain([26]), 50);
 }
 
 /// One to three steps of a team that was made up.
 fn steps(bytes: &[u8], made_up: &MadeUp, tally: &mut Tally, random: &mut Random) {
     let mut team = Team::new(bytes, &made_up.state, &made_up.roll);
-    let first = team.step(made_up.asked);
-    tally.stepped(first);
-    let unsound = Refusal {
-        number: 23,
-        place: 0,
-    };
-    if made_up.plan == Plan::AllThere && !made_up.damaged && first == Err(unsound) {
+    let first = step(&mut team, made_up.asked, tally);
+    let unsound_at = |place| first == Err(Refusal { number: 23, place });
+    if made_up.plan == Plan::AllThere && !made_up.damaged && unsound_at(0) {
         tally.all_there += 1;
+    }
+    if !made_up.damaged && made_up.lost.is_some_and(unsound_at) {
+        tally.shown(Shown::NotBelow);
     }
     for _ in 0..random.below(3) {
         let process = random.nearly_below(made_up.roll.len() / ROLL_WORDS);
-        tally.stepped(team.step(process as u32));
+        let _ = step(&mut team, process as u32, tally);
     }
 }
 
@@ -248,8 +270,11 @@ fn steps_of_made_up_teams() {
     assert!(tally.calls() >= 100_000, "{tally}");
     tally.assert_events(2_000);
     tally.assert_refused([2, 3, 6, 7, 8, 9, 11], 50);
-    tally.assert_refused(20..=24, 500);
+    tally.assert_refused((20..=24).chain([26]), 500);
     assert!(tally.all_there > 1_000, "{tally}");
+    let leaves = [Shown::Left, Shown::PastOthers, Shown::Repeated];
+    tally.assert_leaves(&leaves.map(|shown| (shown, 500)));
+    tally.assert_leaves(&[(Shown::Finished, 200), (Shown::NotBelow, 500)]);
 }
 
 #[test]

@@ -62,13 +62,13 @@ pub const STACK_AT: usize = DEPTH_AT + 1;
 /// Words of state for each process.
 pub const PROCESS_WORDS: usize = STACK_AT + STACK;
 
-/// The checker (questions 1 to 17). What the scratch holds before plays no part. Its first
+/// The checker (questions 1 to 17 and 26). What the scratch holds before plays no part. Its first
 /// `SCRATCH_WORDS` are 0 afterwards, unless there are fewer, which is refused with 1.
 pub fn check(table: &[u8], scratch: &mut [u32]) -> Result<(), Refusal> {
     Refusal::judged(raw::check(table, scratch))
 }
 
-/// Starts a team (questions 2 to 12 and 18 to 21) and writes every word of state and roll.
+/// Starts a team (questions 2 to 12, 26 and 18 to 21) and writes every word of state and roll.
 ///
 /// It does not ask whether the checker accepts the table. `start_words` holds for each process the
 /// table's variables and then its doors.
@@ -82,8 +82,8 @@ pub fn start(
     Refusal::judged(raw::start(table, processes, start_words, state, roll))
 }
 
-/// One step of a process (questions 2 to 12 and 20 to 24). Table, state and roll are those of the
-/// start, as the step before left them.
+/// One step of a process (questions 2 to 12, 26 and 20 to 24). Table, state and roll are those of
+/// the start, as the step before left them.
 pub fn step(
     table: &[u8],
     state: &mut [u32],

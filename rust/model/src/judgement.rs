@@ -5,7 +5,7 @@ use crate::table::{Kind, Table};
 
 pub const SCRATCH_WORDS: usize = 256;
 
-/// The checker: questions 1 to 17. The judgements need no scratch here, so its
+/// The checker: questions 1 to 12, 26 and 13 to 17. The judgements need no scratch here, so its
 /// first words are only set to 0 as promised.
 pub fn check(table: &[u8], scratch: &mut [u32]) -> Result<(), Refusal> {
     scratch
@@ -70,10 +70,27 @@ impl Table {
         self.nodes[node].kind != Kind::If || self.is_single(a) || (quiet(b) && quiet(c))
     }
 
-    /// Question 16.
+    /// Question 16. A while that is left locally counts as having an own condition.
     fn while_is_uniform(&self, node: usize) -> bool {
         let [a, b, _] = self.nodes[node].fields;
-        self.nodes[node].kind != Kind::While || self.is_single(a) || !self.has_effect(b)
+        let uniform = || self.is_single(a) && !self.is_left_locally(node);
+        self.nodes[node].kind != Kind::While || uniform() || !self.has_effect(b)
+    }
+
+    /// Whether "a leave stands within the while's body, not in an inner while,
+    /// and under an if whose condition is not single".
+    fn is_left_locally(&self, node: usize) -> bool {
+        (0..self.nodes.len())
+            .filter(|&leave| self.while_left(leave) == Some(node))
+            .any(|leave| self.stands_under_local_if(leave, node))
+    }
+
+    /// Looks at every if on the way up from the leave to its while.
+    fn stands_under_local_if(&self, leave: usize, loop_left: usize) -> bool {
+        self.around(leave)
+            .take_while(|&node| node != loop_left)
+            .filter(|&node| self.nodes[node].kind == Kind::If)
+            .any(|node| !self.is_single(self.nodes[node].fields[0]))
     }
 
     /// Question 17.

@@ -1,4 +1,5 @@
-//! A second, independent reading of the rules paper (01-scope).
+//! A second, independent reading of the rules paper (01-scope) and of the change
+//! requests that have landed (02-change-requests).
 //!
 //! Nothing here is proved. The model exists so that the proved code can be run
 //! beside it: both take the same bytes and words, so every answer and every
@@ -13,6 +14,7 @@
 mod arrival;
 mod evaluation;
 mod judgement;
+mod leave;
 mod process;
 mod programs;
 mod refusal;

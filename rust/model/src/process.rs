@@ -107,7 +107,22 @@ impl Process {
                 self.set_latch(self.value(table, a), self.value(table, b));
                 self.pop();
             }
+            Kind::Leave => self.leave(table, top),
             _ => self.pop(),
+        }
+    }
+
+    /// "The stack is popped down to and including the highest entry of that
+    /// while"; by question 23 there is one.
+    fn leave(&mut self, table: &Table, top: usize) {
+        let left = table.while_left(top);
+        let entries = &self.stack[..self.depth as usize];
+        let highest = entries
+            .iter()
+            .rposition(|&entry| Some(entry as usize) == left);
+        let kept = highest.unwrap_or(0) as u32;
+        while self.depth > kept {
+            self.pop();
         }
     }
 

@@ -1,8 +1,8 @@
-//! The table out of its bytes, and questions 2 to 12.
+//! The table out of its bytes, and questions 2 to 12 and 26.
 
 use crate::refusal::{ask, ask_each, Refusal};
 
-/// A table that has passed questions 2 to 12.
+/// A table that has passed questions 2 to 12 and 26.
 pub struct Table {
     pub variables: usize,
     pub procedures: Vec<Procedure>,
@@ -47,15 +47,16 @@ pub enum Kind {
     Barrier = 23,
     Broadcast = 24,
     Exchange = 25,
+    Leave = 26,
 }
 
 #[rustfmt::skip]
-const KINDS: [Kind; 23] = [
+const KINDS: [Kind; 24] = [
     Kind::Constant, Kind::Variable, Kind::OwnNumber, Kind::Count, Kind::Door, Kind::Gathered,
     Kind::Sum, Kind::Difference, Kind::Product, Kind::Quotient,
     Kind::Less, Kind::Equal, Kind::Both,
     Kind::Nothing, Kind::Assign, Kind::Sequence, Kind::If, Kind::While, Kind::Call, Kind::Latch,
-    Kind::Barrier, Kind::Broadcast, Kind::Exchange,
+    Kind::Barrier, Kind::Broadcast, Kind::Exchange, Kind::Leave,
 ];
 
 /// What a node's field holds.
@@ -80,7 +81,7 @@ impl Kind {
 
     /// The paper's meeting: barrier, broadcast or exchange.
     pub fn is_collective(self) -> bool {
-        self >= Kind::Barrier
+        matches!(self, Kind::Barrier | Kind::Broadcast | Kind::Exchange)
     }
 
     fn fields(self) -> [Field; 3] {
@@ -88,7 +89,8 @@ impl Kind {
         match self {
             Kind::Constant => [Unnamed, Number, Number],
             Kind::Variable => [Variable, Unnamed, Unnamed],
-            Kind::OwnNumber | Kind::Count | Kind::Nothing | Kind::Barrier => [Unnamed; 3],
+            Kind::OwnNumber | Kind::Count => [Unnamed; 3],
+            Kind::Nothing | Kind::Barrier | Kind::Leave => [Unnamed; 3],
             Kind::Door | Kind::Gathered | Kind::Exchange => [Expression, Unnamed, Unnamed],
             Kind::Sum | Kind::Difference | Kind::Product | Kind::Quotient => {
                 [Expression, Expression, Unnamed]
@@ -119,7 +121,7 @@ impl Node {
         self.kind.fields().into_iter().zip(self.fields)
     }
 
-    fn parts(&self) -> impl Iterator<Item = usize> {
+    pub fn parts(&self) -> impl Iterator<Item = usize> {
         self.labelled_fields()
             .filter(|(field, _)| matches!(field, Field::Expression | Field::Statement))
             .map(|(_, part)| part)
@@ -152,7 +154,7 @@ impl Header {
 }
 
 impl Table {
-    /// Asks questions 2 to 12.
+    /// Asks questions 2 to 12 and then 26.
     pub fn read(bytes: &[u8]) -> Result<Table, Refusal> {
         ask(2, length_is_possible(bytes.len()))?;
         let words = words_of(bytes);
@@ -175,6 +177,7 @@ impl Table {
             single_flags,
         };
         table.ask_8_to_12()?;
+        ask_each(26, header.nodes, |node| table.leave_has_while(node))?;
         Ok(table)
     }
 

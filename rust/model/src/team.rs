@@ -35,7 +35,7 @@ pub struct Answer {
     pub team: TeamStatus,
 }
 
-/// Questions 2 to 12 and 18, and the number of start words that question 19 asks for.
+/// Questions 2 to 12, 26 and 18, and the number of start words that question 19 asks for.
 pub fn startable(table: &[u8], processes: u32) -> Result<(Table, usize), Refusal> {
     let table = Table::read(table)?;
     let processes = processes as usize;
@@ -44,7 +44,7 @@ pub fn startable(table: &[u8], processes: u32) -> Result<(Table, usize), Refusal
     Ok((table, words))
 }
 
-/// Asks questions 2 to 12 and 18 to 21.
+/// Asks questions 2 to 12, 26 and 18 to 21.
 pub fn start(
     table: &[u8],
     processes: u32,
@@ -75,7 +75,7 @@ fn started(table: &Table, number: usize, count: usize, given: &[u32]) -> Process
     process
 }
 
-/// One step (the paper's turn); asks questions 2 to 12, 21, 20, 22, 23, 24.
+/// One step (the paper's turn); asks questions 2 to 12, 26, 21, 20, 22, 23, 24.
 pub fn step(
     table: &[u8],
     state: &mut [u32],
@@ -138,6 +138,16 @@ impl Team {
                 Status::Waiting => self.waits_rightly(process, arrival),
                 _ => (arrival.node, arrival.value, arrival.source) == (0, 0, 0),
             }
+            && self.can_leave(entries)
+    }
+
+    /// "A made-up stack with a leave on top and that while not below is number 23."
+    fn can_leave(&self, entries: &[u32]) -> bool {
+        let Some((&top, below)) = entries.split_last() else {
+            return true;
+        };
+        let is_below = |left| below.contains(&(left as u32));
+        self.table.while_left(top as usize).is_none_or(is_below)
     }
 
     /// The top is the collective waited at, and a field that its kind lacks is 0.

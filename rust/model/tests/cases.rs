@@ -1,35 +1,17 @@
 //! The marked cases of the rules paper, and what the lent words hold after a call.
 
+mod common;
+
+use common::*;
 use finchchaise_model::{
-    check, check_table, latches, run_team, start, step, Answer, Arrival, Event, Refusal, Status,
-    TeamStatus, PROCESS_WORDS,
+    check, check_table, latches, run_team, start, step, Answer, Event, Refusal, Status, TeamStatus,
+    PROCESS_WORDS,
 };
 
 /// If own number then barrier else nothing.
 const T1: [u32; 7] = [
     0x10420400, 0x00000000, 0x03800000, 0x10000000, 0xB8000000, 0x80000000, 0x98000202,
 ];
-const RUNNING: Arrival = arrival(Status::Running, 0, 0, 0);
-const ENDED: Arrival = arrival(Status::Ended, 0, 0, 0);
-const MARK: u32 = 0xABCD;
-const GATHERED: usize = 32;
-const DOORS: usize = GATHERED + 16;
-const LATCHES: usize = DOORS + 12;
-const DEPTH: usize = LATCHES + 12;
-const STACK: usize = DEPTH + 1;
-
-const fn arrival(status: Status, node: u32, value: u32, source: u32) -> Arrival {
-    Arrival {
-        status,
-        node,
-        value,
-        source,
-    }
-}
-
-fn bytes(words: &[u32]) -> Vec<u8> {
-    words.iter().flat_map(|word| word.to_be_bytes()).collect()
-}
 
 /// T1 with one word changed.
 fn t1_with(place: usize, word: u32) -> Vec<u8> {
@@ -40,36 +22,6 @@ fn t1_with(place: usize, word: u32) -> Vec<u8> {
 
 fn t2() -> Vec<u8> {
     t1_with(3, 0x18000000)
-}
-
-/// One variable, one procedure with the last node as its body.
-fn table_of(nodes: &[[u32; 4]]) -> Vec<u8> {
-    let count = nodes.len() as u32;
-    let mut words = vec![0x10420000 | count << 8, 0, (count - 1) << 24 | 1 << 23];
-    words.extend(
-        nodes
-            .iter()
-            .map(|[k, a, b, c]| k << 27 | a << 18 | b << 9 | c),
-    );
-    bytes(&words)
-}
-
-/// Tables with one variable and start words 0.
-fn run(table: &[u8], processes: u32, turns: &[u8]) -> String {
-    let mut input = bytes(&[table.len() as u32]);
-    input.extend(table);
-    input.extend(bytes(&[processes]));
-    input.extend(vec![0; processes as usize * 13 * 4]);
-    input.extend(turns);
-    run_team(&input)
-}
-
-fn started(table: &[u8], processes: u32, words: &[u32]) -> (Vec<u32>, Vec<Arrival>) {
-    let count = processes as usize;
-    let mut state = vec![MARK; count * PROCESS_WORDS];
-    let mut arrivals = vec![ENDED; count];
-    start(table, processes, words, &mut state, &mut arrivals).expect("a start");
-    (state, arrivals)
 }
 
 /// Latch 0 after one process's step that sets it to the last expression. Doors
@@ -83,15 +35,6 @@ fn latched(expression: &[[u32; 4]]) -> u32 {
     state[GATHERED..GATHERED + 2].copy_from_slice(&[6, MARK]);
     step(&table, &mut state, &mut arrivals, 0).expect("a step");
     latches(&state, 0)[0]
-}
-
-/// A step that is refused and changes no word.
-fn refused_step(table: &[u8], state: &[u32], arrivals: &[Arrival], process: u32) -> (u32, u32) {
-    let (mut state_after, mut arrivals_after) = (state.to_vec(), arrivals.to_vec());
-    let answer = step(table, &mut state_after, &mut arrivals_after, process);
-    assert_eq!((&state_after[..], &arrivals_after[..]), (state, arrivals));
-    let Refusal { number, place } = answer.expect_err("a refusal");
-    (number, place)
 }
 
 #[test]

@@ -1,49 +1,56 @@
-//! Every line of tests/vectors/base.txt through the model.
+//! Every line of tests/vectors/u01.txt through the model.
 
 use finchchaise_model::{check_table, run_team};
 use std::{fs, path::Path};
 
-const VECTORS: &str = "../../tests/vectors/base.txt";
-const FEWEST_CASES: usize = 300;
+const VECTORS: &str = "../../tests/vectors/u01.txt";
+const FEWEST_CASES: usize = 342;
 const MOST_SHOWN: usize = 5;
 
+/// A line: the program's word, its input and its output in hexadecimal.
 struct Case<'line> {
     program: &'line str,
     input: &'line str,
-    expected: &'line str,
+    output: Vec<u8>,
 }
 
 impl Case<'_> {
     fn of(line: &str) -> Case<'_> {
-        // Split at each space: an empty input leaves two spaces side by side.
         let fields: Vec<&str> = line.split(' ').collect();
-        let [program, input, expected] = fields[..] else {
+        let [program, input, output] = fields[..] else {
             panic!("not three fields: {line}");
         };
         Case {
             program,
             input,
-            expected,
+            output: bytes_of(output),
         }
     }
 
-    fn found(&self) -> String {
+    fn found(&self) -> Vec<u8> {
         let input = bytes_of(self.input);
         let text = match self.program {
             "check" => check_table(&input),
             "run" => run_team(&input),
             other => panic!("no program {other}"),
         };
-        text.replace('\n', "/").replace(' ', "_")
+        text.into_bytes()
     }
 }
 
-fn bytes_of(hex: &str) -> Vec<u8> {
-    assert!(hex.len().is_multiple_of(2), "half a byte: {hex}");
-    (0..hex.len())
-        .step_by(2)
-        .map(|place| u8::from_str_radix(&hex[place..place + 2], 16).expect("hexadecimal"))
-        .collect()
+/// `-` stands for no bytes.
+fn bytes_of(hexadecimal: &str) -> Vec<u8> {
+    if hexadecimal == "-" {
+        return Vec::new();
+    }
+    let (bytes, rest) = hexadecimal.as_bytes().as_chunks::<2>();
+    assert!(rest.is_empty(), "half a byte: {hexadecimal}");
+    bytes.iter().map(byte_of).collect()
+}
+
+fn byte_of(digits: &[u8; 2]) -> u8 {
+    let digits = str::from_utf8(digits).expect("text");
+    u8::from_str_radix(digits, 16).expect("hexadecimal")
 }
 
 #[test]
@@ -53,12 +60,12 @@ fn every_vector_is_answered_as_written() {
     let cases: Vec<Case> = text.lines().map(Case::of).collect();
     let differing: Vec<&Case> = cases
         .iter()
-        .filter(|case| case.found() != case.expected)
+        .filter(|case| case.found() != case.output)
         .collect();
     for case in differing.iter().take(MOST_SHOWN) {
         println!("{} {}", case.program, case.input);
-        println!("  expected {}", case.expected);
-        println!("  found    {}", case.found());
+        println!("  expected {}", String::from_utf8_lossy(&case.output));
+        println!("  found    {}", String::from_utf8_lossy(&case.found()));
     }
     assert!(cases.len() >= FEWEST_CASES, "{} cases", cases.len());
     assert!(differing.is_empty(), "{} cases differ", differing.len());

@@ -133,6 +133,10 @@ impl Builder {
     pub fn exchange(&mut self, value: u32) -> u32 {
         self.node(25, value, 0, 0)
     }
+
+    pub fn leave(&mut self) -> u32 {
+        self.node(26, 0, 0, 0)
+    }
 }
 
 /// Statements of several nodes.

@@ -21,9 +21,11 @@ pub fn samples() -> Vec<Sample> {
         file("t1.table", t1()),
         file("t2.table", t2()),
         file("stocktake.table", stocktake()),
+        file("search.table", search()),
         file("tariff.table", tariff()),
         file("t2-two.run", t2_two()),
         file("stocktake.run", stocktake_run()),
+        file("search.run", search_run()),
         file("tariff.run", tariff_run()),
     ]
 }
@@ -108,6 +110,38 @@ fn add_up(table: &mut Builder) -> u32 {
     table.procedure(body, true)
 }
 
+/// Every process looks for its first empty door, the doors found are exchanged, and each process
+/// opens its own. The only variable is DOOR.
+///
+/// It shows a leave under a local condition: one process goes round the loop more often than another,
+/// so the loop has no global effect and the collective stands behind it.
+pub fn search() -> Vec<u8> {
+    let mut table = Builder::new(1, &[]);
+    let find = find_empty(&mut table);
+    let door = table.variable(DOOR);
+    let exchange = table.exchange(door);
+    let door = table.variable(DOOR);
+    let opened = table.constant(1);
+    let open = table.latch(door, opened);
+    let end = table.sequence(exchange, open);
+    let body = table.sequence(find, end);
+    table.procedure(body, true);
+    table.bytes()
+}
+
+/// Ends with the first empty door in DOOR, or with 12 there, whose door word is 0 by the rules.
+fn find_empty(table: &mut Builder) -> u32 {
+    let always = table.constant(1);
+    let door = table.variable(DOOR);
+    let is_occupied = table.door(door);
+    let pass = table.nothing();
+    let found = table.leave();
+    let look = table.choose(is_occupied, pass, found);
+    let next = table.increase(DOOR);
+    let body = table.sequence(look, next);
+    table.repeat(always, body)
+}
+
 /// Variables of the tariff change: the tariff, the same on all processes, and what is offered at a
 /// process's own desk.
 const TARIFF: u32 = 0;
@@ -161,17 +195,42 @@ const BAGS: [[u32; 12]; 2] = [
 
 /// In turns: a step for process 0, one for process 1, and so on.
 fn stocktake_run() -> Vec<u8> {
-    let variables = [0; 4];
-    let start: Vec<u32> = BAGS
+    let start = start_words(&[0; 4], &BAGS);
+    run_input(&stocktake(), 2, &start, &[0, 1].repeat(STOCKTAKE_STEPS))
+}
+
+/// Every process has the same variables, and doors of its own.
+fn start_words(variables: &[u32], doors: &[[u32; 12]]) -> Vec<u32> {
+    doors
         .iter()
         .flat_map(|doors| variables.iter().chain(doors))
         .copied()
-        .collect();
-    run_input(&stocktake(), 2, &start, &[0, 1].repeat(STOCKTAKE_STEPS))
+        .collect()
 }
 
 /// Steps that each process needs to the end.
 const STOCKTAKE_STEPS: usize = 77;
+
+/// The doors of the search's three processes: the first empty one is 2, 0 and none.
+const LOCKERS: [[u32; 12]; 3] = [
+    [1, 1, 0, 1, 0, 0, 0, 0, 1, 0, 0, 0],
+    [0, 1, 1, 0, 0, 0, 1, 0, 0, 0, 0, 1],
+    [1; 12],
+];
+
+/// Each process goes to the exchange alone, one after another; behind it a step each.
+fn search_run() -> Vec<u8> {
+    let alone = |(process, steps)| vec![process; steps];
+    let turns: Vec<u8> = (0..)
+        .zip(SEARCH_STEPS)
+        .flat_map(alone)
+        .chain([0, 1, 2])
+        .collect();
+    run_input(&search(), 3, &start_words(&[0], &LOCKERS), &turns)
+}
+
+/// Steps that each process needs up to the exchange.
+const SEARCH_STEPS: [usize; 3] = [17, 7, 67];
 
 /// Three processes; 1,250 is offered at the desk of process 1.
 fn tariff_run() -> Vec<u8> {

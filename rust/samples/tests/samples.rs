@@ -1,7 +1,7 @@
 //! The files of samples/ are what this package makes, and what their .md files say of them is true.
 
 use finchchaise_model::{check_table, latches, run_team, start, step, Arrival, PROCESS_WORDS};
-use finchchaise_samples::{samples, stocktake, tariff, Sample};
+use finchchaise_samples::{samples, search, stocktake, tariff, Sample};
 use std::fs;
 use std::path::PathBuf;
 
@@ -83,7 +83,7 @@ fn assert_printed(session: &str) {
 #[test]
 fn explanations_show_what_is_printed() {
     let mut sessions = 0;
-    for name in ["t1.md", "t2.md", "stocktake.md", "tariff.md"] {
+    for name in ["t1.md", "t2.md", "stocktake.md", "search.md", "tariff.md"] {
         let text = text(name);
         for session in text
             .split("```\n")
@@ -96,18 +96,22 @@ fn explanations_show_what_is_printed() {
     assert_eq!(sessions, samples().len());
 }
 
-/// Latches 0 and 1 of every process after a run, given its start words and turns.
-fn shown(table: &[u8], start_words: &[u32], count: usize, turns: usize) -> Vec<(u32, u32)> {
+/// The state after a run, given its start words and turns.
+fn state_after(table: &[u8], start_words: &[u32], count: usize, turns: usize) -> Vec<u32> {
     let mut state = vec![0; count * PROCESS_WORDS];
     let mut arrivals = vec![Arrival::default(); count];
     start(table, count as u32, start_words, &mut state, &mut arrivals).expect("a start");
     for turn in 0..count * turns {
         step(table, &mut state, &mut arrivals, (turn % count) as u32).expect("a step");
     }
-    let latch = |process, latch: usize| latches(&state, process)[latch];
-    (0..count)
-        .map(|process| (latch(process, 0), latch(process, 1)))
-        .collect()
+    state
+}
+
+/// Latches 0, 1 and 2 of every process.
+fn shown(state: &[u32]) -> Vec<[u32; 3]> {
+    let count = state.len() / PROCESS_WORDS;
+    let first = |process| *latches(state, process).first_chunk().expect("latches");
+    (0..count).map(first).collect()
 }
 
 /// The start words within a run's input.
@@ -121,12 +125,35 @@ fn start_words(run: &str, table: &[u8], words: usize) -> Vec<u32> {
         .collect()
 }
 
+/// Where the gathered words begin in a process's words.
+const GATHERED_AT: usize = 32;
+
 #[test]
 fn latches_hold_what_is_said() {
     let given = start_words("stocktake.run", &stocktake(), 2 * 16);
-    assert_eq!(shown(&stocktake(), &given, 2, 77), [(8, 0); 2]);
+    let state = state_after(&stocktake(), &given, 2, 77);
+    assert_eq!(shown(&state), [[8, 0, 0]; 2]);
     let given = start_words("tariff.run", &tariff(), 3 * 14);
-    assert_eq!(shown(&tariff(), &given, 3, 8), [(1250, 1); 3]);
+    let state = state_after(&tariff(), &given, 3, 8);
+    assert_eq!(shown(&state), [[1250, 1, 0]; 3]);
+}
+
+#[test]
+fn search_finds_the_doors_that_are_said() {
+    let given = start_words("search.run", &search(), 3 * 13);
+    let state = state_after(&search(), &given, 3, 68);
+    assert_eq!(shown(&state), [[0, 0, 1], [1, 0, 0], [0, 0, 0]]);
+    for words in state.chunks(PROCESS_WORDS) {
+        assert_eq!(words[GATHERED_AT..][..3], [2, 0, 12]);
+    }
+}
+
+#[test]
+fn search_with_a_single_door_is_refused() {
+    let mut table = search();
+    // The flag of variable 0.
+    table[4] = 0x80;
+    assert_eq!(check_table(&table), "refused 16 11\n");
 }
 
 #[test]

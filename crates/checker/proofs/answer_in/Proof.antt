@@ -5,6 +5,7 @@ use native.Mathlib.Omega.{arith}
 use lib.ListN.{length, take, replicate}
 use lib.Seq.{length-take-le, take-at}
 use Rattle.table.proofs.BitLaws.{cleared}
+use Rattle.visit.specs.Fields.{allPlanes}
 use borrow.Author.Needs.{needs}
 use Rattle.checker.proofs.answer_in.Statement.{statement}
 use Rattle.checker.proofs.answer_in.Tie as tie
@@ -35,9 +36,10 @@ accepted-requires c κs =
     let start = c .before .before .before .before .before .before .before in
     let words = start .args .words .now in
     let first = c .before .before .before .clear in
-    let lent : length (take 16 words) ≡ 16 = length-take-le 16 words (omega (arith, start .pre)) in
-    let zero : first .last .0 ≡ replicate 16 0 = cleared (first .last .0) (take 16 words) (first .ensures) lent in
-    take-at (first .last .0) _ 16 (first .kept .0 ∙ lent) ∙ zero
+    let lent : length (take allPlanes words) ≡ allPlanes = length-take-le allPlanes words (omega (arith, start .pre)) in
+    let zero : first .last .0 ≡ replicate allPlanes 0 =
+    cleared (first .last .0) (take allPlanes words) (first .ensures) lent in
+    take-at (first .last .0) _ allPlanes (first .kept .0 ∙ lent) ∙ zero
 
 clear-requires-2 : tie.Need-clear-requires-2
 clear-requires-2 c κs = search needs

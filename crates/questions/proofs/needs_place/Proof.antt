@@ -1,7 +1,7 @@
 -- `questions::needs_place` meets its contract.
 use Rattle.questions.proofs.QuestionLaws.{needs-other}
 use Rattle.rules.proofs.KindLaws.{sequence-of, loop-of}
-use Rattle.process.proofs.StatementLaws.{top-statement, top-test, top-to}
+use Rattle.process.proofs.StatementLaws.{top-statement, top-test}
 use Rattle.rules.specs.Table.{statementAt}
 use Rattle.rules.specs.Process.{needsPlace}
 use mathlib.Core.Path.{sym}
@@ -31,7 +31,7 @@ returns-3 : tie.Need-returns-3
 unfolding statementAt
 returns-3 c =
     let given = c .before .before .before .before .pre in
-    rw (← given .here) (sym (needs-other _ _ _ (top-to given) (c .before .if1 .left) (c .if2 .left)))
+    rw (← given .here) (sym (needs-other _ _ _ (c .before .if1 .left) (c .if2 .left)))
 
 pub needs-place-spec : {M : Type 1} → statement M
 needs-place-spec = tie.close (tie.spec returns cast-evaluate evaluate-requires returns-2 returns-3)

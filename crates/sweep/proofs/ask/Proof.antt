@@ -25,8 +25,8 @@ ask-contents-requires : tie.Need-ask-contents-requires
 ask-contents-requires c κs =
     let told = c .before .before in
     let start = told .before .before .before .before .before in
-    let fits = sized _ (sym (told .before .before .shape .ensures) ∙ told .enum-told2 .given .1) in
-    (rw (c .before .header .ensures) fits, start .pre)
+    let passed = sym (told .before .before .shape .ensures) ∙ told .enum-told2 .given .1 in
+    (rw (c .before .header .ensures) (sized _ passed), passed, start .pre)
 
 returns : tie.Need-returns
 returns c =

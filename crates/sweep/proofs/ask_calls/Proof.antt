@@ -1,6 +1,10 @@
--- `ask_calls` meets its contract: question 12 from the first call that fails it, then the least refusal of 13 to 17.
-use mathlib.Core.Path.{_∙_}
-use Rattle.sweep.proofs.FormedLaws.{refused12, unjudged, judged-next, judged-verdict}
+-- `ask_calls` meets its contract: 12 from the first call that fails it, 26 from the first leave, then the least of 13 to 17.
+use mathlib.Core.Path.{_≡_, _∙_}
+use Rattle.leaves.proofs.LooseLaws.{held-bodies}
+use Rattle.rules.specs.WellFormed.{wellBuilt}
+use Rattle.rules.specs.declared.Verdict.the-variants.{Accepted}
+use Rattle.rules.proofs.Formed.{built}
+use Rattle.sweep.proofs.FormedLaws.{refused12, accepted12, refused26, unjudged, judged-next, judged-verdict, well-built}
 use borrow.Author.Needs.{needs}
 use Rattle.sweep.proofs.ask_calls.Statement.{statement}
 use Rattle.sweep.proofs.ask_calls.Tie as tie
@@ -24,43 +28,77 @@ returns c =
     let start = walk .before .before .before .before in
     c .refused .ensures ∙ refused12 (start .pre .0 .0 .sized) (walk .first-call .ensures .first) _ (test .if1 .taken)
 
-unflagged-requires : tie.Need-unflagged-requires
-unflagged-requires c κs =
-    let walk = c .before .before .before .before .before .before in
+first-loose-requires : tie.Need-first-loose-requires
+first-loose-requires c κs =
+    let walk = c .before .before .before .before .before in
     let start = walk .before .before .before .before in
-    let facts = start .pre .1 (c .before .if2 .taken) in
-    let kept = walk .first-call .ensures .kept in
-    (start .pre .0 .0, walk .first-call .ensures .size, (rw kept (facts .0), facts .1))
+    let filled = start .pre .0 .0 in
+    let called = walk .first-call .ensures in
+    let passed = well-built filled (accepted12 (filled .sized) (called .first) (start .args .judged) (c .before .if1 .left)) in
+    let held = held-bodies _ (built _ passed) (start .pre .1 passed .leaves) in
+    ((record { well-built = passed; headed = filled .sized .read }, called .size), rw (called .leaves) held)
 
-verdict-requires : tie.Need-verdict-requires
-verdict-requires c κs =
-    let walk = c .before .before .before .before .before .before .before in
-    let sized = walk .before .before .before .before .pre .0 .0 .sized in
-    judged-verdict sized (c .unflagged .ensures) .1
+cast-refused-2 : tie.Need-cast-refused-2
+cast-refused-2 c = search needs
+
+refused-requires-2 : tie.Need-refused-requires-2
+refused-requires-2 c κs = search needs
 
 same-length-2 : tie.Need-same-length-2
 same-length-2 c = search needs
 
 returns-2 : tie.Need-returns-2
 returns-2 c =
-    let flags = c .before in
-    let asks = flags .before .before in
-    let tests = asks .before in
-    let walk = tests .before .before .before .before in
+    let loose = c .before .before .before in
+    let past = loose .before .before in
+    let walk = past .before .before .before .before in
     let start = walk .before .before .before .before in
-    let sized = start .pre .0 .0 .sized in
-    let answer = c .verdict .ensures ∙ judged-verdict sized (flags .unflagged .ensures) .0 in
-    answer ∙ judged-next sized (walk .first-call .ensures .first) _ (tests .if1 .left) (asks .if2 .taken)
+    c .refused2 .ensures
+    ∙ refused26 (start .pre .0 .0 .sized) (walk .first-call .ensures .first) _ (past .if1 .left) (loose .first-loose .ensures)
+    (c .before .if2 .taken)
+
+unflagged-requires : tie.Need-unflagged-requires
+unflagged-requires c κs =
+    let walk = c .before .before .before .before .before .before .before .before .before .before in
+    let start = walk .before .before .before .before in
+    let filled = start .pre .0 .0 in
+    let called = walk .first-call .ensures in
+    let passed =
+    well-built filled (accepted12 (filled .sized) (called .first) (start .args .judged) (c .before .before .before .before .before .before .if1 .left)) in
+    let facts = start .pre .1 passed .judge (c .before .if3 .taken) in
+    (filled, called .size, (rw (called .facts) (facts .0), facts .1))
+
+verdict-requires : tie.Need-verdict-requires
+verdict-requires c κs =
+    let sized = c .before .before .before .before .before .before .before .before .before .before .before .before .before .before .before .pre .0 .0 .sized in
+    judged-verdict sized (c .unflagged .ensures) .1
 
 same-length-3 : tie.Need-same-length-3
 same-length-3 c = search needs
 
 returns-3 : tie.Need-returns-3
 returns-3 c =
-    let tests = c .before in
-    let walk = tests .before .before .before .before in
+    let loose = c .before .before .before .before .before .before in
+    let past = loose .before .before in
+    let walk = past .before .before .before .before in
     let start = walk .before .before .before .before in
-    unjudged (start .pre .0 .0 .sized) (walk .first-call .ensures .first) _ (tests .if1 .left) (c .if2 .left)
+    let sized = start .pre .0 .0 .sized in
+    let answer = c .verdict .ensures ∙ judged-verdict sized (c .before .unflagged .ensures) .0 in
+    answer
+    ∙ judged-next sized (walk .first-call .ensures .first) _ (past .if1 .left) (loose .first-loose .ensures) (c .before .before .before .before .if2 .left)
+    (c .before .before .before .if3 .taken)
+
+same-length-4 : tie.Need-same-length-4
+same-length-4 c = search needs
+
+returns-4 : tie.Need-returns-4
+returns-4 c =
+    let loose = c .before .before .before in
+    let past = loose .before .before in
+    let walk = past .before .before .before .before in
+    let start = walk .before .before .before .before in
+    unjudged (start .pre .0 .0 .sized) (walk .first-call .ensures .first) _ (past .if1 .left) (loose .first-loose .ensures)
+    (c .before .if2 .left) (c .if3 .left)
 
 pub ask-calls-spec : {M : Type 1} → statement M
 ask-calls-spec =
@@ -71,9 +109,14 @@ ask-calls-spec =
     refused-requires
     same-length
     returns
-    unflagged-requires
-    verdict-requires
+    first-loose-requires
+    cast-refused-2
+    refused-requires-2
     same-length-2
     returns-2
+    unflagged-requires
+    verdict-requires
     same-length-3
-    returns-3)
+    returns-3
+    same-length-4
+    returns-4)

@@ -1,7 +1,8 @@
 -- `ask_contents` meets its contract: 6 to 11 from the least refusal, and the rest where there is none.
 use mathlib.Core.Path.{_∙_}
-use Rattle.visit.proofs.PlaneLaws.{used-length, facts-put-used, length-put-used}
+use Rattle.visit.proofs.PlaneLaws.{used-length, length-put-used}
 use Rattle.sweep.proofs.EndLaws.{swept-high}
+use Rattle.sweep.proofs.NodeLaws.{kept-put}
 use Rattle.sweep.proofs.FormedLaws.{fails, passes, passes-first, passes-on}
 use borrow.Author.Needs.{needs}
 use Rattle.sweep.proofs.ask_contents.Statement.{statement}
@@ -45,15 +46,14 @@ ask-calls-requires c κs =
     let planes = all .sweep-nodes .last .1 .1 .0 in
     let words = lent .sweep-uses .last .1 .1 .0 in
     let many = lent .sweep-uses .kept .1 .1 .0 ∙ used-length planes (found .size) in
-    let first = passes-first uses past (swept-high (start .pre .0 .nodes-high) (found .marks)) in (
+    let first = passes-first uses past (swept-high (start .pre .0 .nodes-high) (found .marks)) in
+    let size = found .size in (
       (
-        record { sized = start .pre .0; passed = passes uses past },
-        length-put-used planes (found .size) words many,
+        record { sized = start .pre .0; shaped = start .pre .1; passed = passes uses past },
+        length-put-used planes size words many,
         found .called,
       ),
-      λ strictly.
-          let facts = found .judge strictly first in
-          (rw (facts-put-used planes (found .size) words many) (facts .0), facts .1),
+      λ passed. kept-put planes size words many (found .kept passed first),
     )
 
 same-length-2 : tie.Need-same-length-2

@@ -1,9 +1,10 @@
--- `first_call` meets its contract: the lent plane is cleared before the walk, and the facts stay as they are.
+-- `first_call` meets its contract: the lent plane is cleared before the walk, and the other planes stay as they are.
 use mathlib.Core.Path.{refl, _∙_, ap}
 use lib.ListN.{length}
 use borrow.Rule.Slice.PartMut.{midOf, putMid}
 use Rattle.table.proofs.BitLaws.{cleared}
-use Rattle.visit.proofs.PlaneLaws.{used-length, used-put-used, facts-put-used, length-put-used}
+use Rattle.visit.specs.Fields.{planeWords}
+use Rattle.visit.proofs.PlaneLaws.{used-length, used-put-used, facts-put-used, leaves-put-used, length-put-used}
 use Rattle.sweep.proofs.FormedLaws.{fits, none-miscalled}
 use borrow.Author.Needs.{needs}
 use Rattle.sweep.proofs.first_call.Statement.{statement}
@@ -12,7 +13,7 @@ use Rattle.sweep.proofs.first_call.Tie as tie
 returns : tie.Need-returns
 returns c =
     let given = c .before .before .before .pre in
-    record { first = none-miscalled (given .0) (given .2 (c .if1 .taken)); kept = refl; size = given .1 }
+    record { first = none-miscalled (given .0) (given .2 (c .if1 .taken)); facts = refl; leaves = refl; size = given .1 }
 
 sub-clear : tie.Need-sub-clear
 sub-clear c = search needs
@@ -42,7 +43,7 @@ first-miscalled-requires c κs =
     let planes = start .args .planes .now in
     let size = start .pre .1 in
     let words = clearing .clear .last .0 in
-    let zero = cleared words (midOf 0 8 planes) (clearing .clear .ensures) (used-length planes size) in
+    let zero = cleared words (midOf 0 planeWords planes) (clearing .clear .ensures) (used-length planes size) in
     (fits (start .pre .0), used-put-used planes size words (ap length zero) ∙ zero)
 
 same-length : tie.Need-same-length
@@ -56,14 +57,15 @@ returns-2 c =
     let planes = start .args .planes .now in
     let size = start .pre .1 in
     let words = clearing .clear .last .0 in
-    let many = ap length (cleared words (midOf 0 8 planes) (clearing .clear .ensures) (used-length planes size)) in
-    let between = putMid 0 8 planes words in
+    let many = ap length (cleared words (midOf 0 planeWords planes) (clearing .clear .ensures) (used-length planes size)) in
+    let between = putMid 0 planeWords planes words in
     let between-size = length-put-used planes size words many in
     let left = walk .first-miscalled .last .1 .1 .0 in
     let left-many = ap length (walk .first-miscalled .ensures .1) in
     record {
       first = walk .first-miscalled .ensures .0;
-      kept = facts-put-used between between-size left left-many ∙ facts-put-used planes size words many;
+      facts = facts-put-used between between-size left left-many ∙ facts-put-used planes size words many;
+      leaves = leaves-put-used between between-size left left-many ∙ leaves-put-used planes size words many;
       size = length-put-used between between-size left left-many;
     }
 

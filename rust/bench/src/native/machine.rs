@@ -117,7 +117,7 @@ impl Team<'_> {
         stack.iter().all(is_statement)
             && match (record, stack.last()) {
                 ([ENDED, 0, 0, 0], top) => top.is_none(),
-                ([RUNNING, 0, 0, 0], top) => top.is_some(),
+                ([RUNNING, 0, 0, 0], Some(&top)) => self.can_leave(top as usize, stack),
                 (&[WAITING, node, value, source], Some(&top)) if top == node => {
                     match self.table.node(node as usize).kind {
                         23 => value | source == 0,
@@ -128,6 +128,15 @@ impl Team<'_> {
                 }
                 _ => false,
             }
+    }
+
+    /// A leave on top needs its while below.
+    fn can_leave(&self, top: usize, stack: &[u32]) -> bool {
+        if self.table.node(top).kind != 26 {
+            return true;
+        }
+        let left = self.table.while_around(top);
+        left.is_some_and(|left| stack.contains(&(left as u32)))
     }
 
     /// Where all processes wait, if they do.
@@ -146,11 +155,11 @@ impl Team<'_> {
         }
         let top = top(&self.processes[number]);
         let node = self.table.node(top);
-        if node.kind >= 23 {
-            return Ok(self.arrive(number, top, node));
-        }
-        if !self.perform(number, node) {
-            return refused(24, number);
+        match node.kind {
+            23..=25 => return Ok(self.arrive(number, top, node)),
+            26 => self.leave(number, top),
+            _ if !self.perform(number, node) => return refused(24, number),
+            _ => (),
         }
         if self.processes[number][DEPTH] > 0 {
             return Ok(Event::Moved);
@@ -159,7 +168,19 @@ impl Team<'_> {
         Ok(Event::Finished)
     }
 
-    /// A statement that is no collective; false if there is no place on the stack.
+    /// Question 23 has found the while.
+    fn leave(&mut self, number: usize, top: usize) {
+        let left = self.table.while_around(top);
+        let words = &mut self.processes[number];
+        let (depth, stack) = words[DEPTH..].split_first_mut().expect("a stack");
+        let entries = &mut stack[..*depth as usize];
+        let is_left = |&entry: &u32| Some(entry as usize) == left;
+        let kept = entries.iter().rposition(is_left).unwrap_or(0);
+        entries[kept..].fill(0);
+        *depth = kept as u32;
+    }
+
+    /// A statement that is no collective or leave; false if there is no place on the stack.
     fn perform(&mut self, number: usize, node: Node) -> bool {
         let Node { kind, a, b, c } = node;
         let value = |part| self.value(number, part);

@@ -1,6 +1,6 @@
-//! Questions 7 to 17, in one pass over the nodes.
+//! Questions 7 to 17 and 26, in one pass over the nodes.
 
-use super::refusal::{call_going_up, misused, refused};
+use super::refusal::{call_going_up, misused, refused, stray_leave};
 use super::table::{Node, Table};
 use finchchaise::Refusal;
 
@@ -13,10 +13,14 @@ const EXPRESSION: u8 = 1;
 pub const STATEMENT: u8 = 2;
 const SINGLE: u8 = 4;
 const EFFECT: u8 = 8;
+/// A leave is in it that ends a while around it.
+const LEAVES: u8 = 16;
+/// One of them stands under an if whose condition is not single.
+const LEAVES_LOCALLY: u8 = 32;
 
 pub type Facts = [u8; FIELDS];
 
-/// The lowest number that failed, and its lowest place.
+/// The number that failed first, and its lowest place. Only 26 is not asked in its order: after 12.
 type Fault = (u32, usize);
 const NO_FAULT: Fault = (u32::MAX, 0);
 
@@ -31,11 +35,11 @@ pub fn check(table: &[u8], scratch: &mut [u32]) -> Result<(), Refusal> {
     }
 }
 
-/// A table that has passed questions 2 to 12, and its nodes' facts.
+/// A table that has passed questions 2 to 12 and 26, and its nodes' facts.
 pub fn read(table: &[u8]) -> Result<(Table<'_>, Facts), Refusal> {
     let reader = Reader::read(Table::of(table)?);
     match reader.fault {
-        (number @ ..=12, place) => refused(number, place),
+        (number @ (..=12 | 26), place) => refused(number, place),
         _ => Ok((reader.table, reader.facts)),
     }
 }
@@ -107,6 +111,7 @@ impl<'bytes> Reader<'bytes> {
             23 => without_fields(node, STATEMENT | EFFECT),
             24 => self.broadcast(number, node),
             25 => self.exchange(node),
+            26 => without_fields(node, STATEMENT | LEAVES),
             _ => return self.fail(7, number),
         };
         self.facts[number] = facts;
@@ -125,13 +130,15 @@ impl<'bytes> Reader<'bytes> {
         }
     }
 
-    /// Questions 10 to 12 and 17.
+    /// Questions 10 to 12, 26 and 17.
     fn read_bodies(&mut self) {
         let mut goes_up = false;
+        let mut strays = false;
         for (procedure, word) in self.table.procedures.iter().enumerate() {
             let body = word[0] as usize;
             let facts = self.part(body);
             goes_up |= self.reach[body] as usize > procedure;
+            strays |= facts & LEAVES != 0;
             if facts & STATEMENT == 0 {
                 self.fail(10, procedure);
             }
@@ -145,6 +152,9 @@ impl<'bytes> Reader<'bytes> {
         }
         if goes_up && self.fault.0 > 12 {
             self.fail(12, call_going_up(&self.table));
+        }
+        if strays && self.fault.0 > 12 {
+            self.fault = (26, stray_leave(&self.table));
         }
     }
 }
@@ -206,18 +216,26 @@ impl Reader<'_> {
     fn choose(&mut self, number: usize, Node { a, b, c, .. }: Node) -> Read {
         let (condition, then, otherwise) = (self.part(a), self.part(b), self.part(c));
         self.reach[number] = self.reach[b].max(self.reach[c]);
-        self.ask_single(15, number, condition, then | otherwise);
+        let either = then | otherwise;
+        self.ask_single(15, number, condition, either);
         let fits = are(condition, EXPRESSION) && are(then & otherwise, STATEMENT);
-        (true, fits, then | otherwise)
+        let locally = are(either, LEAVES) && !are(condition, SINGLE);
+        let facts = if locally {
+            either | LEAVES_LOCALLY
+        } else {
+            either
+        };
+        (true, fits, facts)
     }
 
     #[inline(always)]
     fn repeat(&mut self, number: usize, Node { a, b, c, .. }: Node) -> Read {
         let (condition, body) = (self.part(a), self.part(b));
         self.reach[number] = self.reach[b];
-        self.ask_single(16, number, condition, body);
+        let local = if are(body, LEAVES_LOCALLY) { SINGLE } else { 0 };
+        self.ask_single(16, number, condition & !local, body);
         let fits = are(condition, EXPRESSION) && are(body, STATEMENT);
-        (c == 0, fits, body)
+        (c == 0, fits, body & !(LEAVES | LEAVES_LOCALLY))
     }
 
     /// The flag decides, not the body.

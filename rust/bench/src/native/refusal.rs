@@ -39,6 +39,14 @@ pub fn call_going_up(table: &Table) -> usize {
     lowest
 }
 
+/// Question 26: the lowest leave that has no while around it.
+#[cold]
+pub fn stray_leave(table: &Table) -> usize {
+    let mut leaves = (0..table.nodes.len()).filter(|&number| table.node(number).kind == 26);
+    let stray = leaves.find(|&leave| table.while_around(leave).is_none());
+    stray.unwrap_or(0)
+}
+
 fn parts(Node { kind, a, b, c }: Node) -> Vec<usize> {
     match kind {
         4 | 5 | 25 => vec![a],

@@ -85,6 +85,22 @@ impl Table<'_> {
         Node::of(self.nodes[number])
     }
 
+    /// The nearest while around a statement. Each node around it is above the one before, so they
+    /// are found in one pass.
+    pub fn while_around(&self, statement: usize) -> Option<usize> {
+        let mut inner = statement;
+        for number in statement + 1..self.nodes.len() {
+            let Node { kind, a, b, c } = self.node(number);
+            match kind {
+                20 if b == inner => return Some(number),
+                18 if a == inner || b == inner => inner = number,
+                19 if b == inner || c == inner => inner = number,
+                _ => (),
+            }
+        }
+        None
+    }
+
     /// Also asked of numbers that are no variable, whose table is then refused.
     pub fn is_flagged(&self, variable: usize) -> bool {
         self.flags >> (31 - variable % 32) & 1 == 1

@@ -1,11 +1,14 @@
 -- `machine::turn::run` meets its contract.
 use Rattle.machine.proofs.OutcomeLaws.{run-alone, run-meets}
 use Rattle.machine.proofs.TeamLaws.{ready-stacked, ready-statement, ready-topped, ready-turn}
-use Rattle.process.proofs.StatementLaws.{statement-below, top-to}
+use Rattle.process.proofs.StatementLaws.{statement-below}
 use Rattle.process.proofs.ReadLaws.{readable, read-formed}
+use Rattle.process.specs.Given.{isCollective}
 use Rattle.rules.specs.Table.{nodeAt}
 use Rattle.rules.specs.Process.{processAt, top}
-use mathlib.Core.Path.{_≡_, _∙_, ap}
+use mathlib.Core.Path.{_≡_, sym, _∙_, ap}
+use mathlib.Core.Bool.{true, false}
+use borrow.Author.Tests.{not-true, not-false}
 use borrow.Author.Needs.{needs}
 use Rattle.machine.proofs.turn.run.Statement.{statement}
 use Rattle.machine.proofs.turn.run.Tie as tie
@@ -39,11 +42,21 @@ node-at-requires c κs =
     let at = c .top .ensures ∙ ap top (c .before .process-at .ensures) in
     rw at (readable read (statement-below _ (read-formed read) _ (ready-statement (given .0) (given .1))))
 
+is-collective-requires : tie.Need-is-collective-requires
+is-collective-requires c κs = search needs
+
+-- what the test says of the node
+alone : (c : tie.Then1) → isCollective (c .before .before .node-at .result .kind) ≡ false
+alone c = sym (c .before .is-collective .ensures) ∙ not-true _ (c .if1 .taken)
+
+meets : (c : tie.Else1) → isCollective (c .before .before .node-at .result .kind) ≡ true
+meets c = sym (c .before .is-collective .ensures) ∙ not-false _ (c .if1 .left)
+
 move-on-requires : tie.Need-move-on-requires
 move-on-requires c κs =
     let read = c .before .before .before .before in
     let given = start read .pre in
-    (given .0 .team, given .0 .within, given .1, ready-turn (given .0) (given .1) (on-top read) (c .before .before .if1 .taken))
+    (given .0 .team, given .0 .within, given .1, ready-turn (given .0) (given .1) (on-top read) (alone (c .before .before)))
 
 same-length : tie.Need-same-length
 same-length c = search needs
@@ -55,14 +68,14 @@ returns : tie.Need-returns
 returns c =
     let chosen = c .before .before .before .before .before .before .before in
     let read = chosen .before .before in
-    rw (run-alone _ _ _ _ _ (read .node-at .result) (on-top read) (chosen .if1 .taken))
+    rw (run-alone _ _ _ _ _ (read .node-at .result) (on-top read) (alone chosen))
     (c .before .before .before .before .move-on .ensures)
 
 meet-requires : tie.Need-meet-requires
 meet-requires c κs =
     let read = c .before .before .before .before in
     let given = start read .pre in
-    (given .0, given .1, ready-topped (given .0) (given .1) (on-top read), c .before .before .if1 .left)
+    (given .0, given .1, ready-topped (given .0) (given .1) (on-top read), meets (c .before .before))
 
 same-length-3 : tie.Need-same-length-3
 same-length-3 c = search needs
@@ -74,8 +87,7 @@ returns-2 : tie.Need-returns-2
 returns-2 c =
     let chosen = c .before .before .before .before .before .before .before in
     let read = chosen .before .before in
-    let topped = ready-topped (start read .pre .0) (start read .pre .1) (on-top read) in
-    rw (run-meets _ _ _ _ _ (read .node-at .result) (on-top read) (chosen .if1 .left) (top-to topped))
+    rw (run-meets _ _ _ _ _ (read .node-at .result) (on-top read) (meets chosen))
     (c .before .before .before .before .meet .ensures)
 
 pub run-spec : {M : Type 1} → statement M
@@ -86,6 +98,7 @@ run-spec =
     top-requires
     cast-node-at
     node-at-requires
+    is-collective-requires
     move-on-requires
     same-length
     same-length-2

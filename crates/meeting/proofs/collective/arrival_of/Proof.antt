@@ -1,6 +1,6 @@
 -- `meeting::collective::arrival_of` meets its contract.
 use Rattle.meeting.proofs.CollectiveLaws.{is-barrier, is-broadcast, is-exchange, broadcast-fits, exchange-fits}
-use Rattle.process.proofs.StatementLaws.{top-to}
+use Rattle.process.proofs.AloneLaws.{collective-range}
 use Rattle.meeting.proofs.ArrivalMoves.{arrive-running}
 use Rattle.rules.specs.Collective.{arrivalOf}
 use native.Mathlib.Omega.{arith}
@@ -48,8 +48,9 @@ cast-evaluate-2 c = search needs
 
 evaluate-requires-2 : tie.Need-evaluate-requires-2
 evaluate-requires-2 c κs =
-    let given = c .before .before .before .before .before .before .pre in
-    let high = top-to (given .0) in
+    let past = c .before .before .before .before .before .before in
+    let given = past .pre in
+    let range = collective-range (past .args .node .kind) (given .1) in
     (given .0 .given, broadcast-fits (given .0) (omega arith) .1)
 
 cast-evaluate-3 : tie.Need-cast-evaluate-3
@@ -57,8 +58,9 @@ cast-evaluate-3 c = search needs
 
 evaluate-requires-3 : tie.Need-evaluate-requires-3
 evaluate-requires-3 c κs =
-    let given = c .before .before .before .before .before .before .before .before .pre in
-    let high = top-to (given .0) in
+    let past = c .before .before .before .before .before .before .before .before in
+    let given = past .pre in
+    let range = collective-range (past .args .node .kind) (given .1) in
     (given .0 .given, broadcast-fits (given .0) (omega arith) .2)
 
 arrive-requires-3 : tie.Need-arrive-requires-3
@@ -71,7 +73,7 @@ returns-3 c =
     let top = past .top in
     let args = past .before .before .before .args in
     let given = past .before .before .before .pre in
-    let high = top-to (given .0) in
+    let range = collective-range (args .node .kind) (given .1) in
     rw (
       is-broadcast (args .node) (omega arith),
       ← top .ensures,

@@ -1,5 +1,6 @@
 -- `meeting::collective::receive` meets its contract.
 use Rattle.meeting.proofs.CollectiveLaws.{is-barrier, is-broadcast, is-exchange}
+use Rattle.process.proofs.AloneLaws.{collective-range}
 use Rattle.rules.specs.Collective.{received}
 use native.Mathlib.Omega.{arith}
 use native.Mathlib.Nat.{mod-lt}
@@ -61,7 +62,9 @@ returns-2 c =
 
 returns-3 : tie.Need-returns-3
 unfolding received
-returns-3 c = rw (is-barrier (c .before .before .before .before .args .node) (omega arith))
+returns-3 c =
+    let past = c .before .before .before .before in
+    rw (is-barrier (past .args .node) (omega (arith, collective-range (past .args .node .kind) (past .pre .0 .meets))))
 
 pub receive-spec : {M : Type 1} → statement M
 receive-spec =

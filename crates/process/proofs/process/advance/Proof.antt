@@ -1,10 +1,10 @@
 -- `process::process::advance` meets its contract.
 -- Each arm's function asks what a well-formed table says of the parts of that kind.
-use Rattle.rules.proofs.KindLaws.{nothing-of, assign-of, sequence-of, branch-of, loop-of, call-of, latch-of}
-use Rattle.process.proofs.StatementLaws.{top-statement, top-from, turn-assign, turn-sequence, turn-branch, turn-loop}
-use Rattle.process.proofs.StatementLaws.{turn-repeat, turn-call, turn-body, turn-latch}
+use Rattle.rules.proofs.KindLaws.{assign-of, sequence-of, branch-of, loop-of, call-of, latch-of, leave-of}
+use Rattle.process.proofs.StatementLaws.{top-statement, turn-assign, turn-sequence, turn-branch, turn-loop}
+use Rattle.process.proofs.StatementLaws.{turn-repeat, turn-call, turn-body, turn-latch, turn-leave}
+use Rattle.process.proofs.AloneLaws.{no-work}
 use Rattle.rules.specs.Process.{advanced}
-use native.Mathlib.Omega.{arith}
 use borrow.Author.Needs.{needs}
 use Rattle.process.proofs.process.advance.Statement.{statement}
 use Rattle.process.proofs.process.advance.Tie as tie
@@ -39,6 +39,9 @@ call-requires c κs =
 
 latch-requires : tie.Need-latch-requires
 latch-requires c κs = turn-latch (start (c .before .before) .pre) (c .before .match .keys6)
+
+leave-requires : tie.Need-leave-requires
+leave-requires c κs = turn-leave (start (c .before .before) .pre)
 
 pop-requires : tie.Need-pop-requires
 pop-requires c κs = search needs
@@ -109,9 +112,22 @@ same-length-7 c = search needs
 returns-7 : tie.Need-returns-7
 unfolding advanced
 returns-7 c =
+    let arm = c .before .before .before .before in
+    rw (top-statement (start (arm .before) .pre .topped) (leave-of _ (arm .match .keys7)))
+    (c .before .before .leave .ensures)
+
+same-length-8 : tie.Need-same-length-8
+same-length-8 c = search needs
+
+returns-8 : tie.Need-returns-8
+unfolding advanced
+returns-8 c =
     let given = start (c .before .before .before .before .before) .pre in
-    let from = top-from (given .topped) in
-    rw (top-statement (given .topped) (nothing-of _ (omega arith))) (c .before .before .pop .ensures)
+    let rest = c .before .before .before .before .match .rest in
+    let is =
+    no-work _ (given .alone) (rest .0 .0 .0 .0 .0 .0 .1) (rest .0 .0 .0 .0 .0 .1) (rest .0 .0 .0 .0 .1) (rest .0 .0 .0 .1)
+    (rest .0 .0 .1) (rest .0 .1) (rest .1) in
+    rw (top-statement (given .topped) is) (c .before .before .pop .ensures)
 
 pub advance-spec : {M : Type 1} → statement M
 advance-spec =
@@ -125,6 +141,7 @@ advance-spec =
     repeat-requires
     call-requires
     latch-requires
+    leave-requires
     pop-requires
     same-length
     returns
@@ -139,4 +156,6 @@ advance-spec =
     same-length-6
     returns-6
     same-length-7
-    returns-7)
+    returns-7
+    same-length-8
+    returns-8)

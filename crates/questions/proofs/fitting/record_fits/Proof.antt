@@ -1,11 +1,13 @@
 -- `questions::fitting::record_fits` meets its contract.
 use lib.ListN.{getD}
-use Prim.Native.Nat.{_≤_}
 use Rattle.questions.proofs.QuestionLaws.{record-empty, top-fits}
+use Rattle.process.specs.Given.{Stacked}
 use Rattle.rules.specs.Step.{recordFits}
-use Rattle.rules.specs.Process.{depthAt, depth}
-use borrow.Author.Tests.{ne-eqb, eqb-false}
+use Rattle.rules.specs.Process.{depthAt, depth, top}
+use Rattle.rules.specs.WellFormed.{isStatement}
+use borrow.Author.Tests.{ne-eqb, eqb-false, not-true, not-false}
 use native.Mathlib.Omega.{arith}
+use mathlib.Core.Bool.{true}
 use mathlib.Core.Path.{_≡_, sym, _∙_}
 use borrow.Author.Needs.{needs}
 use Rattle.questions.proofs.fitting.record_fits.Statement.{statement}
@@ -41,33 +43,62 @@ fields-zero-requires-2 c κs = search needs
 returns-4 : tie.Need-returns-4
 unfolding recordFits depth
 returns-4 c =
-    let status-at = c .before .before .before .before .before .status-at in
-    rw (sym (status-at .ensures) ∙ c .before .if4 .taken, c .before .before .if3 .left) (c .fields-zero2 .ensures)
+    let chosen = c .before .before in
+    rw (
+      sym (chosen .before .before .before .before .status-at .ensures) ∙ chosen .if4 .taken,
+      chosen .before .if3 .left,
+      sym (c .before .fields-zero2 .ensures) ∙ not-true _ (c .if5 .taken),
+    )
 
-wait-fits-requires : tie.Need-wait-fits-requires
+-- past the third test, the stack holds an entry
+abbrev start : tie.Else3 → tie.Start
+start c = c .before .before .before .before .before .before .before
+
+stacked : (c : tie.Else3) → Stacked (start c .args .words .now)
 unfolding depth
-wait-fits-requires c κs =
-    let past = c .before .before .before .before .before .before .before .before .before in
-    let given = past .pre in
-    let words = past .args .words .now in
-    let some : getD words depthAt 0 ≡ 0 → ⊥ = eqb-false (getD words depthAt 0) 0 (c .before .before .if3 .left) in
-    let held : 1 ≤ getD words depthAt 0 = omega arith in
-    (given .0, record { sized = given .1; held = held; bounded = given .2 }, given .3, top-fits _ words (given .4) held)
+stacked c =
+    let words = start c .args .words .now in
+    let some : getD words depthAt 0 ≡ 0 → ⊥ = eqb-false (getD words depthAt 0) 0 (c .if3 .left) in
+    record { sized = start c .pre .1; held = omega arith; bounded = start c .pre .2 }
+
+on-top : (c : tie.Else3) → isStatement (start c .args .table .now) (top (start c .args .words .now)) ≡ true
+on-top c = top-fits _ _ (start c .pre .4) (stacked c .held)
+
+leave-fits-requires : tie.Need-leave-fits-requires
+leave-fits-requires c κs =
+    let past = c .before .before .before in
+    (start past .pre .0, stacked past, on-top past)
 
 returns-5 : tie.Need-returns-5
 unfolding recordFits depth
 returns-5 c =
-    let status-at = c .before .before .before .before .before .before .status-at in
-    rw (sym (status-at .ensures) ∙ c .before .if5 .taken, c .before .before .before .if3 .left) (c .wait-fits .ensures)
+    let chosen = c .before .before .before in
+    rw (
+      sym (chosen .before .before .before .before .status-at .ensures) ∙ chosen .if4 .taken,
+      chosen .before .if3 .left,
+      sym (c .before .before .fields-zero2 .ensures) ∙ not-false _ (c .before .if5 .left),
+    )
+    (c .leave-fits .ensures)
+
+wait-fits-requires : tie.Need-wait-fits-requires
+wait-fits-requires c κs =
+    let past = c .before .before in
+    (start past .pre .0, stacked past, start past .pre .3, on-top past)
 
 returns-6 : tie.Need-returns-6
 unfolding recordFits depth
 returns-6 c =
+    let status-at = c .before .before .before .before .before .before .status-at in
+    rw (sym (status-at .ensures) ∙ c .before .if6 .taken, c .before .before .before .if3 .left) (c .wait-fits .ensures)
+
+returns-7 : tie.Need-returns-7
+unfolding recordFits depth
+returns-7 c =
     let status-at = c .before .before .before .before .before .status-at in
     rw (
       ← status-at .ensures,
       ne-eqb _ _ (c .before .if4 .left),
-      ne-eqb _ _ (c .if5 .left),
+      ne-eqb _ _ (c .if6 .left),
       ne-eqb _ _ (c .before .before .before .if1 .left),
     )
 
@@ -83,6 +114,8 @@ record-fits-spec =
     returns-3
     fields-zero-requires-2
     returns-4
-    wait-fits-requires
+    leave-fits-requires
     returns-5
-    returns-6)
+    wait-fits-requires
+    returns-6
+    returns-7)

@@ -1,5 +1,5 @@
 -- `questions::fitting::wait_fits` meets its contract.
-use Rattle.process.proofs.StatementLaws.{statement-below, kind-to}
+use Rattle.process.proofs.StatementLaws.{statement-below}
 use Rattle.process.proofs.ReadLaws.{readable, read-formed}
 use Rattle.rules.specs.Table.{nodeAt, statementAt, statementOf, onCollective}
 use Rattle.rules.specs.Step.{waitFits, lackedZero}
@@ -31,14 +31,7 @@ node-at-requires c κs =
     rw (c .before .before .top .ensures) (readable (given .0) (statement-below _ (read-formed (given .0)) _ (given .3)))
 
 lacked-zero-requires : tie.Need-lacked-zero-requires
-lacked-zero-requires c κs =
-    let past = c .before .before .before .before .before .before .before in
-    let args = past .args in
-    let given = past .pre in
-    let here = c .node-at .ensures ∙ ap (nodeAt (args .table .now)) (c .before .before .before .top .ensures) in (
-      given .2,
-      kind-to _ (top (args .words .now)) _ here (given .3),
-    )
+lacked-zero-requires c κs = search needs
 
 returns-2 : tie.Need-returns-2
 unfolding waitFits statementAt

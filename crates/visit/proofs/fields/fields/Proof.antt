@@ -1,7 +1,7 @@
 -- `fields::fields` meets its contract: the plane of the nodes used is lent, and the facts stay as they are.
 use mathlib.Core.Path.{_∙_, ap}
 use borrow.Rule.Slice.PartMut.{putMid}
-use Rattle.visit.proofs.PlaneLaws.{used-length, used-kept, used-put-used, facts-put-used, length-put-used}
+use Rattle.visit.proofs.PlaneLaws.{used-length, used-kept, used-put-used, facts-put-used, leaves-put-used, length-put-used}
 use borrow.Author.Needs.{needs}
 use Rattle.visit.proofs.fields.fields.Statement.{statement}
 use Rattle.visit.proofs.fields.fields.Tie as tie
@@ -34,6 +34,7 @@ returns c =
       taken = λ e. rw (used-put-used planes size words many) (taken .take-fields .ensures .1 .0 e);
       same = λ e. ap (putMid 0 8 planes) (taken .take-fields .ensures .1 .1 e) ∙ used-kept planes size;
       facts = facts-put-used planes size words many;
+      leaves = leaves-put-used planes size words many;
       size = length-put-used planes size words many;
     }
 

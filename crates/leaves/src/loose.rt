@@ -1,0 +1,71 @@
+// Question 26: has each leave a while around it? It has if no procedure's body holds a leave that stands in no while; else the
+// first that has none is looked for.
+ghost use mathlib.Core.Bool.{not};
+ghost use mathlib.Core.Path.{_≡_};
+ghost use Prim.Native.Nat.{_%_, _<_};
+ghost use lib.ListN.{length};
+ghost use Rattle.leaves.specs.Leaves.{Held};
+ghost use Rattle.loops.specs.Built.{Built};
+ghost use Rattle.rules.specs.Choice.{firstFailing, allBelow};
+ghost use Rattle.rules.specs.Table.{procedures, nodes, body};
+ghost use Rattle.rules.specs.WellFormed.{leaveEnclosed};
+ghost use Rattle.table.specs.Marks.{bitAt};
+ghost use Rattle.visit.specs.Fields.{leavesPlane, allPlanes};
+use crate::holds;
+use loops::nearest_loop;
+use table::Header;
+use table::words::body;
+use table::words::kind_at;
+
+fn bodies_closed(table: &[u8], header: Header, planes: &[u32]) -> bool
+    requires { ⌜ Built (now table) header × (length (now planes) ≡ allPlanes) ⌝ }
+    ensures { λ r. ⌜ r ≡ allBelow (λ p. not (bitAt (leavesPlane (now (planes .entry))) (body (now (table .entry)) p % 256)))
+        (procedures (now (table .entry))) ⌝ }
+{
+    let count = header.procedures;
+    let mut p = 0;
+    while p < count {
+        if holds(planes, body(table, p) as u32) {
+            return false;
+        }
+        p += 1;
+    }
+    true
+}
+
+fn enclosed(table: &[u8], header: Header, n: usize) -> bool
+    requires { ⌜ Built (now table) header × (n < nodes (now table)) ⌝ }
+    ensures { λ r. ⌜ r ≡ leaveEnclosed (now (table .entry)) n ⌝ }
+{
+    if kind_at(table, header, n) != 26 {
+        return true;
+    }
+    nearest_loop(table, header, n) < header.nodes
+}
+
+fn first_open(table: &[u8], header: Header) -> usize
+    requires { ⌜ Built (now table) header ⌝ }
+    ensures { λ r. ⌜ r ≡ firstFailing (leaveEnclosed (now (table .entry))) (nodes (now (table .entry))) ⌝ }
+{
+    let count = header.nodes;
+    let mut n = 0;
+    while n < count {
+        if !enclosed(table, header, n) {
+            return n;
+        }
+        n += 1;
+    }
+    count
+}
+
+// The first leave with no while around it, in a table whose nodes are all visited.
+pub fn first_loose(table: &[u8], header: Header, planes: &[u32]) -> usize
+    requires { ⌜ Built (now table) header × (length (now planes) ≡ allPlanes) ⌝ }
+    requires { ⌜ Held (now table) (leavesPlane (now planes)) ⌝ }
+    ensures { λ r. ⌜ r ≡ firstFailing (leaveEnclosed (now (table .entry))) (nodes (now (table .entry))) ⌝ }
+{
+    if bodies_closed(table, header, planes) {
+        return header.nodes;
+    }
+    first_open(table, header)
+}

@@ -1,0 +1,204 @@
+-- Question 26 by the bodies: where no procedure's body holds a leave outside every while, each leave has a while around it. So a
+-- pass from the parts up need only look at the bodies.
+use mathlib.Core.Bool.{true, false, _&&_}
+use mathlib.Core.List.{List, [], _∷_, _++_}
+use mathlib.Core.Logic.{_≢_, _⊎_, inl, inr, ⊎-elim}
+use mathlib.Core.Path.{_≡_, refl, sym, _∙_, ap, subst}
+use Prim.Native.Nat.{ℕ, zero, suc, _+_, _-_, _≤_, _<_}
+use native.Mathlib.Decide.{decLt, ℕ-discrete}
+use native.Mathlib.Omega.{arith}
+use lib.Dec.{ltb}
+use borrow.Author.Tests.{leb-true, ne-eqb}
+use Rattle.rules.specs.Judgement.{holdsLeave}
+use Rattle.rules.specs.Table.{variables, procedures, nodes, body, nodeAt, statementOf, expressionAt, statementAt, isLeave}
+use Rattle.rules.specs.Table.{Expression, constant, variable, ownNumber, processCount, door, slot, operation}
+use Rattle.rules.specs.Table.{Statement, nothing, assign, sequence, branch, loop, call, latch, collective, leave}
+use Rattle.rules.specs.Table.{Collective, barrier, broadcast, exchange}
+use Rattle.rules.specs.WellFormed.{isExpression, expressionPart, statementPart, expressionFits, collectiveFits, statementFits}
+use Rattle.rules.specs.WellFormed.{expressionParts, collectiveParts, statementParts, partsAt, joined, uses, occurrences}
+use Rattle.rules.specs.WellFormed.{openParts, nearestLoop}
+use Rattle.rules.proofs.AnswerLaws.{both-left, both-right}
+use Rattle.rules.proofs.Formed.{Formed, Enclosed, statement-past}
+use Rattle.rules.proofs.LoopLaws.{In, OpenPart, counted-append, part-low, openly-self, openly-part}
+use Rattle.rules.proofs.LoopLaws.{named-below, nearest-part, nearest-body}
+use Rattle.rules.proofs.ValueLaws.{expression-part-sort}
+
+in-append : (xs ys : List ℕ) (a : ℕ) → In a (xs ++ ys) → In a xs ⊎ In a ys
+in-append [] ys a i = inr i
+in-append (x ∷ xs) ys a (inl e) = inl (inl e)
+in-append (x ∷ xs) ys a (inr i) =
+    ⊎-elim (λ (h : In a xs). inl (inr h)) (λ (h : In a ys). inr h) (in-append xs ys a i)
+
+pub counted-in : (xs : List ℕ) (a : ℕ) → 1 ≤ occurrences a xs → In a xs
+unfolding occurrences
+counted-in [] a h = absurd (omega arith)
+counted-in (x ∷ xs) a h =
+    elim (ℕ-discrete x a) [
+      | yes e ↦ inl (sym e)
+      | no n ↦
+          let rest : 1 ≤ 0 + occurrences a xs = simp (ne-eqb x a n) at h in
+          inr (counted-in xs a (omega arith))
+    ]
+
+joined-in : (list : ℕ → List ℕ) (a n : ℕ) → 1 ≤ occurrences a (joined list n) → (k : ℕ) × (k < n) × In a (list k)
+unfolding joined occurrences
+joined-in list a zero h = absurd (omega arith)
+joined-in list a (suc n) h =
+    let split = counted-append (joined list n) (list n) a in
+    elim (decLt 0 (occurrences a (list n))) [
+      | yes l ↦ (n, omega arith, counted-in (list n) a (omega arith))
+      | no m ↦ let (k, l, i) = joined-in list a n (omega arith) in (k, omega arith, i)
+    ]
+
+module _ (table : List ℕ) (n : ℕ) where
+  -- the parts of an expression are expressions
+  expression-sort : (e : Expression) (a : ℕ) → expressionFits table n e ≡ true → In a (expressionParts e)
+      → isExpression table a ≡ true
+  unfolding expressionFits expressionParts
+  expression-sort (constant v) a h i = absurd i
+  expression-sort (variable v) a h i = absurd i
+  expression-sort ownNumber a h i = absurd i
+  expression-sort processCount a h i = absurd i
+  expression-sort (door x) a h (inl e) = rw e (expression-part-sort table n x h)
+  expression-sort (door x) a h (inr i) = absurd i
+  expression-sort (slot x) a h (inl e) = rw e (expression-part-sort table n x h)
+  expression-sort (slot x) a h (inr i) = absurd i
+  expression-sort (operation o x y) a h (inl e) =
+      rw e (expression-part-sort table n x (both-left (expressionPart table n x) (expressionPart table n y) h))
+  expression-sort (operation o x y) a h (inr (inl e)) =
+      rw e (expression-part-sort table n y (both-right (expressionPart table n x) (expressionPart table n y) h))
+  expression-sort (operation o x y) a h (inr (inr i)) = absurd i
+
+  collective-sort : (k : Collective) (a : ℕ) → collectiveFits table n k ≡ true → In a (collectiveParts k)
+      → isExpression table a ≡ true
+  unfolding collectiveFits collectiveParts
+  collective-sort barrier a h i = absurd i
+  collective-sort (broadcast x y z) a h (inl e) =
+      rw e
+      (expression-part-sort table n y
+      (both-right (ltb x (variables table)) (expressionPart table n y)
+      (both-left (ltb x (variables table) && expressionPart table n y) (expressionPart table n z) h)))
+  collective-sort (broadcast x y z) a h (inr (inl e)) =
+      rw e
+      (expression-part-sort table n z
+      (both-right (ltb x (variables table) && expressionPart table n y) (expressionPart table n z) h))
+  collective-sort (broadcast x y z) a h (inr (inr i)) = absurd i
+  collective-sort (exchange x) a h (inl e) = rw e (expression-part-sort table n x h)
+  collective-sort (exchange x) a h (inr i) = absurd i
+
+  -- a part of a statement is an expression, stands in the same while, or is a while's body
+  abbrev Sorted : Statement → ℕ → Type 0
+  Sorted s a = (isExpression table a ≡ true) ⊎ (In a (openParts s) ⊎ ((c : ℕ) × (s ≡ loop c a)))
+
+  statement-sort : (s : Statement) (a : ℕ) → statementFits table n s ≡ true → In a (statementParts s) → Sorted s a
+  unfolding statementFits statementParts openParts
+  statement-sort nothing a h i = absurd i
+  statement-sort (assign x y) a h (inl e) =
+      inl (rw e (expression-part-sort table n y (both-right (ltb x (variables table)) (expressionPart table n y) h)))
+  statement-sort (assign x y) a h (inr i) = absurd i
+  statement-sort (sequence x y) a h i = inr (inl i)
+  statement-sort (branch x y z) a h (inl e) =
+      inl
+      (rw e
+      (expression-part-sort table n x
+      (both-left (expressionPart table n x) (statementPart table n y)
+      (both-left (expressionPart table n x && statementPart table n y) (statementPart table n z) h))))
+  statement-sort (branch x y z) a h (inr i) = inr (inl i)
+  statement-sort (loop x y) a h (inl e) =
+      inl (rw e (expression-part-sort table n x (both-left (expressionPart table n x) (statementPart table n y) h)))
+  statement-sort (loop x y) a h (inr (inl e)) = inr (inr (x, ap (loop x) (sym e)))
+  statement-sort (loop x y) a h (inr (inr i)) = absurd i
+  statement-sort (call p) a h i = absurd i
+  statement-sort (latch x y) a h (inl e) =
+      inl (rw e (expression-part-sort table n x (both-left (expressionPart table n x) (expressionPart table n y) h)))
+  statement-sort (latch x y) a h (inr (inl e)) =
+      inl (rw e (expression-part-sort table n y (both-right (expressionPart table n x) (expressionPart table n y) h)))
+  statement-sort (latch x y) a h (inr (inr i)) = absurd i
+  statement-sort (collective k) a h i = inl (collective-sort k a h i)
+  statement-sort leave a h i = absurd i
+
+  -- an expression reads as nothing
+  expression-nothing : isExpression table n ≡ true → statementAt table n ≡ nothing
+  unfolding isExpression statementAt statementOf
+  expression-nothing e =
+      let low : nodeAt table n .kind - 16 ≡ 0 = omega (arith, leb-true (nodeAt table n .kind) 12 e) in
+      rw low
+
+module _ (table : List ℕ) (formed : Formed table) where
+  -- a node is a part of a node or a procedure's body
+  user : (n : ℕ) → n < nodes table
+      → ((m : ℕ) × In n (partsAt table m)) ⊎ ((p : ℕ) × (p < procedures table) × (n ≡ body table p))
+  unfolding uses
+  user n l =
+      let once = formed .used-once n l in
+      let split = counted-append (joined (partsAt table) (nodes table)) (joined (λ p. body table p ∷ []) (procedures table)) n in
+      elim (decLt 0 (occurrences n (joined (partsAt table) (nodes table)))) [
+        | yes some ↦
+            let (m, b, i) = joined-in (partsAt table) n (nodes table) (omega arith) in
+            inl (m, i)
+        | no none ↦
+            let (p, b, i) = joined-in (λ p. body table p ∷ []) n (procedures table) (omega arith) in
+            inr (p, b, ⊎-elim (λ (e : n ≡ body table p). e) (λ (z : ⊥). absurd z) i)
+      ]
+
+  -- a part that is a statement stands in the same while, or is a while's body
+  part-sort : (m n : ℕ) → statementAt table n ≢ nothing → In n (partsAt table m)
+      → OpenPart table formed n m ⊎ ((c : ℕ) × (statementAt table m ≡ loop c n))
+  unfolding partsAt
+  part-sort m n some i =
+      ⊎-elim
+      (λ (h : In n (expressionParts (expressionAt table m))).
+      absurd
+      (some
+      (expression-nothing table n (expression-sort table m (expressionAt table m) n (formed .expression-fits m) h))))
+      (λ (h : In n (statementParts (statementAt table m))).
+      ⊎-elim
+      (λ (e : isExpression table n ≡ true). absurd (some (expression-nothing table n e)))
+      (λ (e : In n (openParts (statementAt table m)) ⊎ ((c : ℕ) × (statementAt table m ≡ loop c n))). e)
+      (statement-sort table m (statementAt table m) n (formed .statement-fits m) h))
+      (in-append (expressionParts (expressionAt table m)) (statementParts (statementAt table m)) n i)
+
+  open-some : (s : Statement) (a : ℕ) → In a (openParts s) → s ≢ nothing
+  unfolding openParts
+  open-some s a i e = subst (λ t. In a (openParts t)) e i
+
+  held-part : (m n : ℕ) → OpenPart table formed n m → holdsLeave table n ≡ true → holdsLeave table m ≡ true
+  unfolding holdsLeave
+  held-part m n i h = openly-part table formed (λ k. isLeave (statementAt table k)) m n i h
+
+  module _ (bodies : (p : ℕ) → p < procedures table → holdsLeave table (body table p) ≡ false) where
+    -- up from a statement that holds a leave
+    climbed : (k n : ℕ) → nodes table ≤ n + k → n < nodes table → statementAt table n ≢ nothing → holdsLeave table n ≡ true
+        → nearestLoop table n < nodes table
+    climbed zero n far l some held = absurd (omega arith)
+    climbed (suc k) n far l some held =
+        ⊎-elim
+        (λ (found : (m : ℕ) × In n (partsAt table m)).
+        let (m, i) = found in
+        let low = part-low table formed m n i in
+        let high = named-below table formed m n i in
+        ⊎-elim
+        (λ (o : OpenPart table formed n m).
+        rw (nearest-part table formed m n o)
+        (climbed k m (omega arith) high (open-some (statementAt table m) n o) (held-part m n o held)))
+        (λ (b : (c : ℕ) × (statementAt table m ≡ loop c n)). rw (nearest-body table formed m (b .0) n (b .1)) high)
+        (part-sort m n some i))
+        (λ (found : (p : ℕ) × (p < procedures table) × (n ≡ body table p)).
+        let (p, b, e) = found in
+        let none : holdsLeave table n ≡ false = ap (holdsLeave table) e ∙ bodies p b in
+        let z : _≡_ {A = ℕ} 0 1 = cc in
+        absurd (omega arith))
+        (user n l)
+
+    pub bodies-enclosed : Enclosed table
+    unfolding holdsLeave
+    bodies-enclosed n s =
+        elim (decLt n (nodes table)) [
+          | yes l ↦
+              climbed (nodes table) n (omega arith) l (λ e. let z : _≡_ {A = ℕ} 0 1 = cc in omega arith)
+              (openly-self table formed (λ k. isLeave (statementAt table k)) n (rw s))
+          | no m ↦
+              let past = statement-past table (formed .sized) n (omega arith) in
+              let z : _≡_ {A = ℕ} 0 1 = cc in
+              absurd (omega arith)
+        ]

@@ -1,0 +1,70 @@
+//! Tables out of nodes, and calls on states of their own.
+
+use finchchaise_model::{run_team, start, step, Arrival, Refusal, Status, PROCESS_WORDS};
+
+pub const RUNNING: Arrival = arrival(Status::Running, 0, 0, 0);
+pub const ENDED: Arrival = arrival(Status::Ended, 0, 0, 0);
+pub const MARK: u32 = 0xABCD;
+pub const GATHERED: usize = 32;
+pub const DOORS: usize = GATHERED + 16;
+pub const LATCHES: usize = DOORS + 12;
+pub const DEPTH: usize = LATCHES + 12;
+pub const STACK: usize = DEPTH + 1;
+
+pub const fn arrival(status: Status, node: u32, value: u32, source: u32) -> Arrival {
+    Arrival {
+        status,
+        node,
+        value,
+        source,
+    }
+}
+
+pub fn bytes(words: &[u32]) -> Vec<u8> {
+    words.iter().flat_map(|word| word.to_be_bytes()).collect()
+}
+
+/// One variable, one procedure with the last node as its body.
+pub fn table_of(nodes: &[[u32; 4]]) -> Vec<u8> {
+    table_with(&[nodes.len() as u32 - 1], nodes)
+}
+
+/// One variable, procedures with these bodies, all with the effect flag.
+pub fn table_with(bodies: &[u32], nodes: &[[u32; 4]]) -> Vec<u8> {
+    let (procedures, count) = (bodies.len() as u32, nodes.len() as u32);
+    let mut words = vec![0x10400000 | procedures << 17 | count << 8, 0];
+    words.extend(bodies.iter().map(|body| body << 24 | 1 << 23));
+    words.extend(
+        nodes
+            .iter()
+            .map(|[k, a, b, c]| k << 27 | a << 18 | b << 9 | c),
+    );
+    bytes(&words)
+}
+
+/// Tables with one variable and start words 0.
+pub fn run(table: &[u8], processes: u32, turns: &[u8]) -> String {
+    let mut input = bytes(&[table.len() as u32]);
+    input.extend(table);
+    input.extend(bytes(&[processes]));
+    input.extend(vec![0; processes as usize * 13 * 4]);
+    input.extend(turns);
+    run_team(&input)
+}
+
+pub fn started(table: &[u8], processes: u32, words: &[u32]) -> (Vec<u32>, Vec<Arrival>) {
+    let count = processes as usize;
+    let mut state = vec![MARK; count * PROCESS_WORDS];
+    let mut arrivals = vec![ENDED; count];
+    start(table, processes, words, &mut state, &mut arrivals).expect("a start");
+    (state, arrivals)
+}
+
+/// A step that is refused and changes no word.
+pub fn refused_step(table: &[u8], state: &[u32], arrivals: &[Arrival], process: u32) -> (u32, u32) {
+    let (mut state_after, mut arrivals_after) = (state.to_vec(), arrivals.to_vec());
+    let answer = step(table, &mut state_after, &mut arrivals_after, process);
+    assert_eq!((&state_after[..], &arrivals_after[..]), (state, arrivals));
+    let Refusal { number, place } = answer.expect_err("a refusal");
+    (number, place)
+}
