@@ -25,8 +25,8 @@ use Rattle.leaves.specs.Leaves.{leftBit, passedOn, leftCode, Left}
 use Rattle.leaves.proofs.LeaveSteps.{unnamed-part, leaves-plain, leaves-leave, leaves-passed}
 
 -- a part lies below the node that names it, and is of its sort
-part-below : (table : List ℕ) (n a : ℕ) (sort : Bool) → (ltb a n && sort) ≡ true → (a < n) × (sort ≡ true)
-part-below table n a sort e = (ltb-true a n (both-left (ltb a n) sort e), both-right (ltb a n) sort e)
+part : (n a : ℕ) (sort : Bool) → (ltb a n && sort) ≡ true → (a < n) × (sort ≡ true)
+part n a sort e = (ltb-true a n (both-left (ltb a n) sort e), both-right (ltb a n) sort e)
 
 -- a rule that fails where two things hold
 both-fail : (n : ℕ) (s t : Bool) → cond (s && t) (code 16 n) none ≡ failure 16 n (not s || not t)
@@ -72,8 +72,8 @@ module _ (table : List ℕ) (v : Visit) (sized : Sized table (v .header)) (low :
       left-sequence is made e known judged =
           let formed = built table e in
           let (first, second) = sequence-fields table formed n m refl is in
-          let a = part-below table n (m .a) (isStatement table (m .a)) first in
-          let b = part-below table n (m .b) (isStatement table (m .b)) second in
+          let a = part n (m .a) (isStatement table (m .a)) first in
+          let b = part n (m .b) (isStatement table (m .b)) second in
           let s = statement-here table formed n m refl (sequence-of m is) in (
             leaves-passed table formed (v .judged) n inside before known (m .b) (m .a) (m .b) false
                 (ap openParts s) (rw s (inr (inl refl))) (omega arith) refl (λ strictly. ap (localIf table) s) after
@@ -89,9 +89,9 @@ module _ (table : List ℕ) (v : Visit) (sized : Sized table (v .header)) (low :
       left-branch is local read made e known judged =
           let formed = built table e in
           let (test, first, second) = branch-fields table formed n m refl is in
-          let a = part-below table n (m .a) (isExpression table (m .a)) test in
-          let b = part-below table n (m .b) (isStatement table (m .b)) first in
-          let c = part-below table n (m .c) (isStatement table (m .c)) second in
+          let a = part n (m .a) (isExpression table (m .a)) test in
+          let b = part n (m .b) (isStatement table (m .b)) first in
+          let c = part n (m .c) (isStatement table (m .c)) second in
           let s = statement-here table formed n m refl (branch-of m is) in
           let own : m .a % 256 ≡ m .a = omega (arith, a .0, formed .nodes-high, inside) in
           let guard : v .judged ≡ true → not (single table (m .a)) ≡ local =
@@ -110,7 +110,7 @@ module _ (table : List ℕ) (v : Visit) (sized : Sized table (v .header)) (low :
   unfolding statementPart leftCode
   left-loop here is r answer e known judged =
       let formed = built table e in
-      let b = part-below table n (m .b) (isStatement table (m .b)) (loop-fields table formed n m refl is .1) in
+      let b = part n (m .b) (isStatement table (m .b)) (loop-fields table formed n m refl is .1) in
       let s = statement-here table formed n m refl (loop-of m is) in
       let i = body-part table formed n (m .a) (m .b) s in
       let own : m .b % 256 ≡ m .b = omega (arith, b .0, formed .nodes-high, inside) in (

@@ -22,6 +22,7 @@ use Rattle.rules.proofs.LoopLaws.{In, anyOf, in-counted, open-part, part-low, n
 use Rattle.table.specs.Marks.{bitAt, withBit, withoutBit}
 use Rattle.table.proofs.BitLaws.{length-withBit, length-withoutBit, bit-same, bit-other, without-same, without-other}
 use Rattle.table.proofs.TestLaws.{never}
+use Rattle.visit.specs.Fields.{planeWords}
 use Rattle.leaves.specs.Leaves.{Unnamed, leftBit, LeavesTo, keptAt, passedOn}
 use Rattle.leaves.proofs.LeftLaws.{left-unheld, left-leave, length-keptAt}
 
@@ -89,7 +90,7 @@ module _ (table : List ℕ) (formed : Formed table) where
     clear = known .clear n (omega arith) few
 
     -- a plane in which only the node and its parts have another bit
-    module _ (after : List ℕ) (size : length after ≡ 8)
+    module _ (after : List ℕ) (size : length after ≡ planeWords)
         (same : (k : ℕ) → (k ≡ n → ⊥) → (In k (partsAt table n) → ⊥) → bitAt after k ≡ bitAt leaves k) where
       apart : (k : ℕ) → Unnamed table (n + 1) k → In k (partsAt table n) → ⊥
       apart k free i = omega (arith, free n (omega arith), in-counted (partsAt table n) k i)
@@ -229,7 +230,7 @@ module _ (table : List ℕ) (formed : Formed table) where
           (λ (e : left ≡ false). rw (own-b, e) (without-same leaves b inside))
           (bool-cases left)
 
-      length-put : length put ≡ 8
+      length-put : length put ≡ planeWords
       length-put =
           ⊎-elim
           (λ (e : left ≡ true). rw e (length-withBit leaves (b % 256) ∙ known .size))

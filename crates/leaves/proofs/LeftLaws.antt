@@ -9,21 +9,13 @@ use lib.ListN.{length}
 use borrow.Author.Tests.{eq-eqb, ne-eqb}
 use borrow.Rule.Slice.PartMut.{putMid}
 use Rattle.rules.specs.declared.Node.{Node}
-use Rattle.rules.specs.Table.{procedures, nodes, nodeAt}
-use Rattle.table.specs.Header.{headerOf}
-use Rattle.table.specs.declared.Header.{Header}
+use Rattle.rules.specs.Table.{nodeAt}
 use Rattle.table.specs.Marks.{bitAt, withBit, withoutBit}
 use Rattle.table.proofs.TestLaws.{never}
 use Rattle.table.proofs.BitLaws.{length-withBit, length-withoutBit}
 use Rattle.visit.specs.Fields.{leavesFrom, planeWords, allPlanes, leavesPlane}
 use Rattle.visit.proofs.PlaneLaws.{leaves-length, used-put-leaves, facts-put-leaves, leaves-put-leaves, length-put-leaves}
 use Rattle.leaves.specs.Leaves.{leftBit, Kept, keptAt, passedOn}
-
--- the counts of a header that is read again
-pub header-counts : (table : List ℕ) {head : Header} → head ≡ headerOf table
-    → (head .nodes ≡ nodes table) × (head .procedures ≡ procedures table)
-unfolding headerOf
-header-counts table e = (ap (λ h. h .nodes) e, ap (λ h. h .procedures) e)
 
 -- what `left` answers
 module _ (table leaves : List ℕ) (n : ℕ) where

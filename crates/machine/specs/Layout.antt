@@ -19,7 +19,7 @@ laidWord variables entry given i =
     (cond (ltb i latchesAt) (getD given (variables + (i - doorsAt)) 0)
     (cond (eqb i depthAt) 1 (cond (eqb i stackAt) entry 0))))
 
--- what questions 2 to 12 and 18 to 20 say
+-- what questions 2 to 12, 26 and 18 to 20 say
 pub record Startable (table : List ℕ) (count : ℕ) (words state : List ℕ) : Type 0 where
   pub well-formed : wellFormed table ≡ Accepted
   pub some : 1 ≤ count

@@ -1,7 +1,8 @@
--- The cases that the paper marks to be proved of the rules, one table of theorems, each by computation from the table's words.
+-- The cases that the paper marks to be proved of the rules, and a few of leaves, one table of theorems, each by computation from
+-- the table's words.
 use mathlib.Core.List.{List, [], _∷_, _++_}
 use mathlib.Core.Path.{_≡_, refl}
-use Prim.Native.Nat.{ℕ, zero, suc, _+_, _*_, _/_, _%_, _^_}
+use Prim.Native.Nat.{ℕ, zero, suc, _+_, _-_, _*_, _/_, _%_, _^_}
 use lib.ListN.{getD, replicate, set, take, drop}
 use Rattle.rules.specs.declared.Event.{Event}
 use Rattle.rules.specs.declared.Event.the-variants.{Moved, Finished, Arrived, Completed}
@@ -23,12 +24,12 @@ use Rattle.rules.specs.Evaluation
 use Rattle.rules.specs.Evaluation.{Environment, value}
 use Rattle.rules.specs.Judgement
 use Rattle.rules.specs.Process
-use Rattle.rules.specs.Process.{processWords, processAt}
+use Rattle.rules.specs.Process.{depthAt, stackAt, stackPlaces, processWords, processAt}
 use Rattle.rules.specs.Run
 use Rattle.rules.specs.Run.{Team, answers, afterTurns, startTeam}
 use Rattle.rules.specs.Start
 use Rattle.rules.specs.Step
-use Rattle.rules.specs.Step.{stepVerdict}
+use Rattle.rules.specs.Step.{stepVerdict, stepped}
 use Rattle.rules.specs.Table
 use Rattle.rules.specs.WellFormed
 
@@ -235,25 +236,33 @@ search-run : run search-loop 1 open-door (0 ∷ 0 ∷ 0 ∷ 0 ∷ [])
 unfolding opened stocktake search-loop open-door
 search-run = refl
 
--- depth and lowest stack places after so many turns of that process
-stack-after : List ℕ → List ℕ
-stack-after turns = take 5 (drop 72 (afterTurns (bytes search-loop) (startOn search-loop 1 open-door) turns .state))
+-- the team of that process after so many turns, and of a state the depth and the lowest stack places
+searching : List ℕ → Team
+searching turns = afterTurns (bytes search-loop) (startOn search-loop 1 open-door) turns
+
+stack-of : List ℕ → List ℕ
+stack-of state = take 5 (drop depthAt state)
 
 -- the leave, 3, lies above the rest of the body, 6, and the while, 8
-leave-on-top : stack-after (0 ∷ 0 ∷ 0 ∷ []) ≡ 3 ∷ 8 ∷ 6 ∷ 3 ∷ 0 ∷ []
-unfolding opened stocktake search-loop open-door stack-after
+leave-on-top : stack-of (searching (0 ∷ 0 ∷ 0 ∷ []) .state) ≡ 3 ∷ 8 ∷ 6 ∷ 3 ∷ 0 ∷ []
+unfolding opened stocktake search-loop open-door searching stack-of
 leave-on-top = refl
 
 -- "the stack is popped down to and including the highest entry of that while"
-leave-taken : stack-after (0 ∷ 0 ∷ 0 ∷ 0 ∷ []) ≡ 0 ∷ 0 ∷ 0 ∷ 0 ∷ 0 ∷ []
-unfolding opened stocktake search-loop open-door stack-after
+leave-taken : stack-of (searching (0 ∷ 0 ∷ 0 ∷ 0 ∷ []) .state) ≡ 0 ∷ 0 ∷ 0 ∷ 0 ∷ 0 ∷ []
+unfolding opened stocktake search-loop open-door searching stack-of
 leave-taken = refl
 
+-- the highest, in a made-up stack that has the while twice
+twice : List ℕ
+twice = take depthAt (searching (0 ∷ 0 ∷ 0 ∷ []) .state) ++ 4 ∷ 8 ∷ 8 ∷ 6 ∷ 3 ∷ replicate (stackPlaces - 4) 0
+
+leave-highest : stack-of (stepped (bytes search-loop) twice (searching [] .roll) 0 .state) ≡ 1 ∷ 8 ∷ 0 ∷ 0 ∷ 0 ∷ []
+unfolding opened stocktake search-loop open-door searching stack-of twice
+leave-highest = refl
+
 -- "A made-up stack with a leave on top and that while not below is number 23."
-leave-unfounded : stepVerdict (bytes search-loop)
-    (set (afterTurns (bytes search-loop) (startOn search-loop 1 open-door) (0 ∷ 0 ∷ 0 ∷ []) .state) 73 4)
-    (replicate 4 0)
-    0
+leave-unfounded : stepVerdict (bytes search-loop) (set (searching (0 ∷ 0 ∷ 0 ∷ []) .state) stackAt 4) (searching [] .roll) 0
     ≡ refused 23 0
-unfolding opened stocktake search-loop open-door
+unfolding opened stocktake search-loop open-door searching
 leave-unfounded = refl

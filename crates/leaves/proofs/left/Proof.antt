@@ -1,8 +1,9 @@
 -- `left` meets its contract: the node's own bit comes first.
-use mathlib.Core.Path.{sym, _∙_}
+use mathlib.Core.Path.{sym, _∙_, subst}
 use native.Mathlib.Omega.{arith}
 use borrow.Author.Tests.{not-true, not-false}
-use Rattle.leaves.proofs.LeftLaws.{left-unheld, left-leave, left-part, header-counts}
+use Rattle.table.specs.Sized.{Sized}
+use Rattle.leaves.proofs.LeftLaws.{left-unheld, left-leave, left-part}
 use borrow.Author.Needs.{needs}
 use Rattle.leaves.proofs.left.Statement.{statement}
 use Rattle.leaves.proofs.left.Tie as tie
@@ -19,14 +20,15 @@ header-requires c κs = search needs
 returns-2 : tie.Need-returns-2
 returns-2 c =
     λ inside.
-    let counts = header-counts _ (c .before .before .header .ensures) in
-    absurd (omega (arith, counts .0))
+    let given = c .before .before .before .before .before .before .before .pre in
+    let again = subst (Sized _) (sym (c .before .before .header .ensures)) (given .0) in
+    absurd (omega (arith, again .nodes-read))
 
 node-at-requires : tie.Need-node-at-requires
 node-at-requires c κs =
     let given = c .before .before .before .before .before .before .before .pre in
-    let counts = header-counts _ (c .before .before .header .ensures) in
-    (c .before .before .header .ensures, omega (arith, counts .0, counts .1, given .0 .size))
+    let again = subst (Sized _) (sym (c .before .before .header .ensures)) (given .0) in
+    (again .read, omega (arith, again .nodes-read, again .procedures-read, again .size))
 
 returns-3 : tie.Need-returns-3
 returns-3 c = λ inside. left-leave _ _ _ (c .before .before .node-at .ensures) (c .if3 .taken)
