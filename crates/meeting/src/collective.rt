@@ -6,7 +6,7 @@ ghost use Prim.Native.Nat.{ℕ, _+_, _*_, _<_, _≤_};
 ghost use lib.Dec.{eqb};
 ghost use lib.ListN.{length};
 ghost use Rattle.rules.specs.Arrivals.{arrivalSize, waiting, statusAt, runningRecord, endedRecord, withArrival};
-ghost use Rattle.rules.specs.Collective.{arrivalOf, gatheredFrom, received, completedState, releasedRoll};
+ghost use Rattle.rules.specs.Collective.{arrivalOf, gatheredFrom, sentBy, received, completedState, releasedRoll};
 ghost use Rattle.rules.specs.Process.{processWords, mostProcesses, processAt, environment, top, popped};
 ghost use Rattle.rules.specs.declared.Status.the-variants.{Running};
 ghost use Rattle.process.specs.Given.{Stacked, isCollective, Topped};
@@ -67,7 +67,18 @@ fn gather(words: &mut [u32], roll: &[u32], count: usize)
     }
 }
 
-// "A broadcast gives each bank the value of the bank whose number is its own source, modulo the number of banks."
+// "a source number at or above the number of banks gives every bank that names it zero"
+fn sent_by(roll: &[u32], count: usize, source: usize) -> u32
+    requires { ⌜ length (now roll) ≡ arrivalSize * count ⌝ }
+    ensures { λ r. ⌜ r ≡ sentBy (now (roll .entry)) count source ⌝ }
+{
+    if source < count {
+        return value_of(roll, source);
+    }
+    0
+}
+
+// "A broadcast gives each bank the value of the bank whose number is its own source"
 fn receive(words: &mut [u32], roll: &[u32], count: usize, node: Node, p: usize)
     requires { ⌜ Meeting (now roll) count node × (length (now words) ≡ processWords) × (p < count) ⌝ }
     ensures { λ _. ⌜ now (words .exit) ≡ received (now (roll .entry)) count (collectiveOf node) p (now (words .entry)) ⌝ }
@@ -78,9 +89,9 @@ fn receive(words: &mut [u32], roll: &[u32], count: usize, node: Node, p: usize)
         return;
     }
     if kind == 24 {
-        let sender = source_of(roll, p) as usize % count;
+        let source = source_of(roll, p) as usize;
         let a = node.a as usize;
-        words[a] = value_of(roll, sender);
+        words[a] = sent_by(roll, count, source);
     }
 }
 

@@ -14,6 +14,7 @@ pub mod StackLaws
 pub mod HomeLaws
 pub mod DepthLaws
 pub mod ProcessLaws
+pub mod CollectiveLaws
 pub mod ArrivalLaws
 pub mod StatusLaws
 pub mod VerdictLaws

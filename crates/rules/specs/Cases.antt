@@ -1,5 +1,5 @@
--- The cases that the paper marks to be proved of the rules, and a few of leaves, one table of theorems, each by computation from
--- the table's words.
+-- The cases that the paper marks to be proved of the rules, and a few of leaves and of absent senders, one table of theorems,
+-- each by computation from the table's words.
 use mathlib.Core.List.{List, [], _∷_, _++_}
 use mathlib.Core.Path.{_≡_, refl}
 use Prim.Native.Nat.{ℕ, zero, suc, _+_, _-_, _*_, _/_, _%_, _^_}
@@ -153,18 +153,34 @@ two-barriers-deadlocked : run two-barriers 2 (zeros 2) (0 ∷ 0 ∷ 1 ∷ 1 ∷ 
 unfolding opened zeros t1 two-barriers
 two-barriers-deadlocked = refl
 
--- a broadcast of the own number from the process of the own number: each process uses its own source, and so gets its own number
-own-source : List ℕ
-own-source = 0x10420300 ∷ 0 ∷ 0x02800000 ∷ 0x10000000 ∷ 0x10000000 ∷ 0xC0000001 ∷ []
+-- a broadcast of the own door 0 into variable 0, from the process that variable 0 numbers
+broadcast-table : List ℕ
+broadcast-table = 0x10420400 ∷ 0 ∷ 0x03800000 ∷ 0 ∷ 0x20000000 ∷ 0x08000000 ∷ 0xC0000202 ∷ []
 
--- variable 0 of a process after a run on two processes
-variable-after : List ℕ → List ℕ → ℕ → ℕ
-variable-after words turns p =
-    getD (processAt (afterTurns (bytes words) (startOn words 2 (zeros 2)) turns .state) p) 0 0
+-- variable 0 of two processes after it, whose sources are given and whose doors hold 7 and 9
+sent : ℕ → ℕ → List ℕ
+sent source other =
+    let start = startOn broadcast-table 2 (source ∷ replicate 12 7 ++ (other ∷ replicate 12 9)) in
+    let state = afterTurns (bytes broadcast-table) start (0 ∷ 1 ∷ []) .state in
+    getD (processAt state 0) 0 0 ∷ getD (processAt state 1) 0 0 ∷ []
 
-own-source-taken : variable-after own-source (0 ∷ 1 ∷ []) 1 ≡ 1
-unfolding opened zeros own-source variable-after
-own-source-taken = refl
+-- each process uses its own source, and so gets its own value
+own-sources : sent 0 1 ≡ 7 ∷ 9 ∷ []
+unfolding opened broadcast-table sent
+own-sources = refl
+
+-- "a source number at or above the number of banks gives every bank that names it zero": to both, and to the one that does
+source-at-count : sent 2 2 ≡ 0 ∷ 0 ∷ []
+unfolding opened broadcast-table sent
+source-at-count = refl
+
+source-above-count : sent 3 3 ≡ 0 ∷ 0 ∷ []
+unfolding opened broadcast-table sent
+source-above-count = refl
+
+source-absent-for-one : sent 1 2 ≡ 9 ∷ 0 ∷ []
+unfolding opened broadcast-table sent
+source-absent-for-one = refl
 
 -- values: an environment whose doors 11 and 12 both hold 7 if read
 

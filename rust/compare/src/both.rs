@@ -96,6 +96,15 @@ impl Team<'_> {
         }
     }
 
+    pub fn table(&self) -> &[u8] {
+        self.table
+    }
+
+    /// The roll, which both have alike.
+    pub fn roll(&self) -> &[u32] {
+        self.model.roll.lent()
+    }
+
     /// The stack of a process, which both have alike.
     pub fn stack(&self, process: u32) -> &[u32] {
         leaves::stack(self.model.state.lent(), process).unwrap_or(&[])

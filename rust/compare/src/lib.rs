@@ -13,6 +13,7 @@ mod made_up;
 mod order;
 mod random;
 mod shape;
+mod sources;
 mod tally;
 mod tree;
 mod words;

@@ -1,7 +1,7 @@
 //! States and rolls that no start led to: most of them sound, others not.
 
 use crate::random::Random;
-use crate::shape::{FIRST_COLLECTIVE, FIRST_STATEMENT};
+use crate::shape::{BROADCAST, FIRST_COLLECTIVE, FIRST_STATEMENT};
 use crate::shape::{LAST_COLLECTIVE, LAST_EXPRESSION, LAST_STATEMENT};
 use crate::tree::leaves;
 use finchchaise::{DEPTH_AT, MOST_PROCESSES, PROCESS_WORDS, ROLL_WORDS, STACK, STACK_AT};
@@ -149,12 +149,20 @@ impl MadeUp {
     fn wait(&mut self, process: usize, node: u32, nodes: &Nodes, random: &mut Random) {
         self.put_top(process, node);
         let (value, source) = match nodes.kinds[node as usize] {
-            24 => (random.word(), random.word()),
+            BROADCAST => (random.word(), self.source(random)),
             25 => (random.word(), 0),
             _ => (0, 0),
         };
         self.record(process)
             .copy_from_slice(&[1, node, value, source]);
+    }
+
+    /// Often of the first process that is not there.
+    fn source(&self, random: &mut Random) -> u32 {
+        match random.one_in(4) {
+            true => (self.roll.len() / ROLL_WORDS) as u32,
+            false => random.word(),
+        }
     }
 
     fn put_top(&mut self, process: usize, node: u32) {

@@ -25,6 +25,7 @@ pub const NOTHING: u32 = FIRST_STATEMENT;
 pub const WHILE: u32 = 20;
 pub const CALL: u32 = 21;
 pub const BARRIER: u32 = 23;
+pub const BROADCAST: u32 = 24;
 pub const LEAVE: u32 = 26;
 
 pub fn is_statement(kind: u32) -> bool {

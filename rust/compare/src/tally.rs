@@ -1,6 +1,7 @@
 //! What a comparison has covered.
 
 use crate::leaves::{self, Shown, SHOWN};
+use crate::sources::{self, SOURCES};
 use finchchaise::{Answer, Event, Refusal, TeamStatus};
 use std::io::Write;
 use std::{fmt, io};
@@ -20,6 +21,8 @@ pub struct Tally {
     pub all_there: usize,
     /// What was shown of leaves, in the order of `SHOWN`.
     pub leaves: [usize; SHOWN.len()],
+    /// Sources of broadcasts that took place, in the order of `SOURCES`.
+    pub sources: [usize; SOURCES.len()],
 }
 
 impl Tally {
@@ -43,6 +46,13 @@ impl Tally {
         leaves::of_step(stack, kept)
             .into_iter()
             .for_each(|shown| self.shown(shown));
+    }
+
+    /// A step of a team with this roll before it, by the sources if it brought a broadcast about.
+    pub fn sent(&mut self, table: &[u8], roll: &[u32], answer: Result<Answer, Refusal>) {
+        sources::of_step(table, roll, answer)
+            .into_iter()
+            .for_each(|source| self.sources[source as usize] += 1);
     }
 
     pub fn shown(&mut self, shown: Shown) {
@@ -95,6 +105,12 @@ impl Tally {
         }
     }
 
+    pub fn assert_sources(&self, least: usize) {
+        for (words, &times) in SOURCES.iter().zip(&self.sources) {
+            assert!(times >= least, "{words} only {times} times: {self}");
+        }
+    }
+
     /// Not by println, which a test keeps to itself unless it fails.
     pub fn show(&self, what: &str) {
         let line = format!("compared {what}: {self}\n");
@@ -107,8 +123,9 @@ impl Tally {
 impl fmt::Display for Tally {
     fn fmt(&self, out: &mut fmt::Formatter) -> fmt::Result {
         write!(out, "{} calls, {} taken", self.calls(), self.taken)?;
-        let words = EVENTS.iter().chain(&TEAMS).chain(&SHOWN);
-        let times = self.events.iter().chain(&self.teams).chain(&self.leaves);
+        let words = EVENTS.iter().chain(&TEAMS).chain(&SHOWN).chain(&SOURCES);
+        let shown = self.leaves.iter().chain(&self.sources);
+        let times = self.events.iter().chain(&self.teams).chain(shown);
         for (word, times) in words.zip(times) {
             if *times > 0 {
                 write!(out, ", {word} {times}")?;

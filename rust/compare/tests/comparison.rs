@@ -98,8 +98,10 @@ fn start_words(table: &Builder, count: usize, equal: bool, random: &mut Random) 
 /// A step, and what it shows.
 fn step(team: &mut Team, process: u32, tally: &mut Tally) -> Result<Answer, Refusal> {
     let leaving = team.leaving(process);
+    let roll = team.roll().to_vec();
     let answer = team.step(process);
     tally.stepped(answer);
+    tally.sent(team.table(), &roll, answer);
     if let (Ok(_), Some(stack)) = (answer, leaving) {
         tally.left(&stack, team.stack(process).len());
     }
@@ -178,6 +180,7 @@ fn runs(what: &str, seed: u64, least: usize, counts: &[usize]) {
     runs.steps.assert_events(2_000);
     let leaves = [Shown::Left, Shown::PastOthers, Shown::Finished];
     runs.steps.assert_leaves(&leaves.map(|shown| (shown, 200)));
+    runs.steps.assert_sources(200);
 }
 
 #[test]
@@ -275,6 +278,7 @@ fn steps_of_made_up_teams() {
     let leaves = [Shown::Left, Shown::PastOthers, Shown::Repeated];
     tally.assert_leaves(&leaves.map(|shown| (shown, 500)));
     tally.assert_leaves(&[(Shown::Finished, 200), (Shown::NotBelow, 500)]);
+    tally.assert_sources(500);
 }
 
 #[test]

@@ -18,7 +18,7 @@ pub struct Arrival {
     pub node: u32,
     /// The value that the process brought.
     pub value: u32,
-    /// The sender that it asks for, in a broadcast.
+    /// The sender that it asks for, in a broadcast; one that the team lacks sends 0.
     pub source: u32,
 }
 

@@ -238,12 +238,11 @@ impl Team {
         }
     }
 
-    /// Each process goes by its own source.
+    /// Each process goes by its own source; one that is not there sends 0.
     fn broadcast(&mut self, variable: usize) {
-        let count = self.arrivals.len();
         for (process, arrival) in self.processes.iter_mut().zip(&self.arrivals) {
-            let sender = arrival.source as usize % count;
-            process.variables[variable] = self.arrivals[sender].value;
+            let sender = self.arrivals.get(arrival.source as usize);
+            process.variables[variable] = sender.map_or(0, |sender| sender.value);
         }
     }
 

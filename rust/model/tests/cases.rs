@@ -228,18 +228,19 @@ fn a_full_stack_is_refused_only_where_a_place_is_needed() {
 
 #[test]
 fn collectives_use_each_process_own_source_and_fill_alike() {
-    // Exchange of own number + 5, then variable 0 from the process own number + 1.
+    // Exchange of own number + 5, then variable 0 takes that value from the process own number + 1.
     let table = table_of(&[
         [2, 0, 0, 0],
         [0, 0, 0, 5],
         [6, 0, 1, 0],
         [25, 2, 0, 0],
         [2, 0, 0, 0],
+        [5, 4, 0, 0],
         [2, 0, 0, 0],
         [0, 0, 0, 1],
-        [6, 5, 6, 0],
-        [24, 0, 4, 7],
-        [18, 3, 8, 0],
+        [6, 6, 7, 0],
+        [24, 0, 5, 8],
+        [18, 3, 9, 0],
     ]);
     let (mut state, mut arrivals) = started(&table, 3, &[0; 39]);
     let mut answers = Vec::new();
@@ -254,13 +255,32 @@ fn collectives_use_each_process_own_source_and_fill_alike() {
     );
     assert_eq!(
         (event(7), event(8)),
-        (Event::Arrived(8), Event::Completed(8))
+        (Event::Arrived(9), Event::Completed(9))
     );
     assert_eq!(answers[8].team, TeamStatus::Done);
     assert_eq!(arrivals, [ENDED; 3]);
     assert_eq!(state[GATHERED..GATHERED + 5], [5, 6, 7, MARK, 0]);
     let variable = |process: usize| state[process * PROCESS_WORDS];
-    assert_eq!([variable(0), variable(1), variable(2)], [1, 2, 0]);
+    assert_eq!([variable(0), variable(1), variable(2)], [6, 7, 0]);
+}
+
+#[test]
+fn a_source_that_is_not_there_gives_0() {
+    // Variable 0 takes door 0 from the process that variable 0 numbers.
+    let table = table_of(&[[0, 0, 0, 0], [4, 0, 0, 0], [1, 0, 0, 0], [24, 0, 1, 2]]);
+    let sent = |[first, second]: [u32; 2]| {
+        let words = [[first].as_slice(), &[7; 12], &[second], &[9; 12]].concat();
+        let (mut state, mut arrivals) = started(&table, 2, &words);
+        for process in [0, 1] {
+            step(&table, &mut state, &mut arrivals, process).expect("a step");
+        }
+        [state[0], state[PROCESS_WORDS]]
+    };
+    assert_eq!(sent([0, 1]), [7, 9]);
+    assert_eq!(sent([1, 2]), [9, 0]);
+    for source in [2, 3, 16, 17, u32::MAX] {
+        assert_eq!(sent([source, source]), [0, 0]);
+    }
 }
 
 #[test]

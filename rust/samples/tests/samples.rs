@@ -139,6 +139,13 @@ fn latches_hold_what_is_said() {
 }
 
 #[test]
+fn tariff_of_a_bank_that_is_not_there_is_0() {
+    let given = start_words("tariff.run", &tariff(), 14);
+    let state = state_after(&tariff(), &given, 1, 8);
+    assert_eq!(shown(&state), [[0, 0, 0]]);
+}
+
+#[test]
 fn search_finds_the_doors_that_are_said() {
     let given = start_words("search.run", &search(), 3 * 13);
     let state = state_after(&search(), &given, 3, 68);

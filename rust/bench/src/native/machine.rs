@@ -227,10 +227,12 @@ impl Team<'_> {
     }
 
     fn complete(&mut self, node: Node) {
-        let count = self.records.len();
         for (words, record) in self.processes.iter_mut().zip(&*self.records) {
             match node.kind {
-                24 => words[node.a] = self.records[record[3] as usize % count][2],
+                24 => {
+                    let sender = self.records.get(record[3] as usize);
+                    words[node.a] = sender.map_or(0, |sender| sender[2]);
+                }
                 25 => {
                     let gathered = &mut words[GATHERED..];
                     let values = self.records.iter().map(|record| record[2]);

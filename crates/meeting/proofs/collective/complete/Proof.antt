@@ -2,11 +2,11 @@
 -- The loop's state has the collective completed for the processes passed; the others' words are as they were.
 use Rattle.process.proofs.LentLaws.{lent, back}
 use Rattle.meeting.specs.Meeting.{collectiveOf}
-use Rattle.rules.proofs.StackLaws.{popped-length, received-length}
-use Rattle.rules.proofs.ProcessLaws.{KeepsSize, each-process-length, each-process-kept}
-use Rattle.rules.specs.Process.{processWords, eachProcess, popped, withProcess}
-use Rattle.rules.specs.Collective.{received, completedState}
-use Rattle.rules.specs.declared.Node.{Node}
+use Rattle.rules.proofs.CollectiveLaws.{taken, taken-keeps}
+use Rattle.rules.proofs.ProcessLaws.{each-process-length, each-process-kept}
+use Rattle.rules.specs.Process.{processWords, eachProcess, withProcess}
+use Rattle.rules.specs.Collective.{completedState}
+use Rattle.rules.specs.Table.{Collective}
 use lib.ListN.{length}
 use native.Mathlib.Numerals.{add-one}
 use native.Mathlib.Omega.{arith}
@@ -16,20 +16,14 @@ use mathlib.Core.List.{List}
 use Rattle.meeting.proofs.collective.complete.Statement.{statement}
 use Rattle.meeting.proofs.collective.complete.Tie as tie
 
-abbrev taken : List ℕ → ℕ → Node → ℕ → List ℕ → List ℕ
-taken roll count node q words = popped (received roll count (collectiveOf node) q words)
-
-taken-keeps : (roll : List ℕ) (count : ℕ) (node : Node) → KeepsSize (taken roll count node)
-taken-keeps roll count node q words h = popped-length _ ∙ received-length roll count (collectiveOf node) q words ∙ h
-
-still-sized : (roll : List ℕ) (count : ℕ) (node : Node) (state₀ state : List ℕ) (p : ℕ) → p ≤ count
+still-sized : (roll : List ℕ) (count : ℕ) (k : Collective) (state₀ state : List ℕ) (p : ℕ) → p ≤ count
     → length state₀ ≡ processWords * count
-    → state ≡ eachProcess (taken roll count node) p state₀ → length state ≡ processWords * count
-still-sized roll count node state₀ state p l sized e =
-    ap length e ∙ each-process-length (taken roll count node) state₀ count (taken-keeps roll count node) sized p l ∙ sized
+    → state ≡ eachProcess (taken roll count k) p state₀ → length state ≡ processWords * count
+still-sized roll count k state₀ state p l sized e =
+    ap length e ∙ each-process-length (taken roll count k) state₀ count (taken-keeps roll count k) sized p l ∙ sized
 
 abbrev Inv-loop : tie.InvT-loop
-Inv-loop state₀ roll count node p₀ state p = (p ≤ count) × (state ≡ eachProcess (taken roll count node) p state₀)
+Inv-loop state₀ roll count node p₀ state p = (p ≤ count) × (state ≡ eachProcess (taken roll count (collectiveOf node)) p state₀)
 
 abbrev μ-loop : tie.MeasureT-loop
 μ-loop state₀ roll count node p₀ state p = count - p
@@ -68,10 +62,10 @@ complete-one-requires c κs =
     let given = c .before .before .before .before .before .pre in
     let roll = args .roll .now in
     let count = args .count in
-    let node = args .node in
+    let k = collectiveOf (args .node) in
     let p = loop .p in
     let kept =
-    each-process-kept (taken roll count node) (args .state .now) count (taken-keeps roll count node) (given .0 .1)
+    each-process-kept (taken roll count k) (args .state .now) count (taken-keeps roll count k) (given .0 .1)
     p p (omega arith) (c .before .loop-test .taken) in (
       given .0 .0,
       rw (lent (loop .state) p, loop .inv .1, kept) (given .1 p (c .before .loop-test .taken)),
@@ -92,14 +86,14 @@ loop-again c =
     let args = c .before .before .before .before .before .before .before .before .args in
     let roll = args .roll .now in
     let count = args .count in
-    let node = args .node in
+    let k = collectiveOf (args .node) in
     let p = loop .p in
     let state = loop .state in
     let next : p + 1 ≡ suc p = add-one p in (
       omega arith,
       rw (next, ← loop .inv .1)
           (back state (complete-one .last .0) p
-          ∙ ap (withProcess state p) (complete-one .ensures ∙ ap (taken roll count node p) (lent state p))),
+          ∙ ap (withProcess state p) (complete-one .ensures ∙ ap (taken roll count k p) (lent state p))),
     )
 
 same-length : tie.Need-same-length Inv-loop μ-loop
@@ -114,7 +108,7 @@ returns c =
     let args = c .before .before .before .before .args in
     let end : c .before .loop .p ≡ args .count = omega arith in
     c .before .loop .inv .1
-    ∙ ap (λ n. eachProcess (taken (args .roll .now) (args .count) (args .node)) n (args .state .now)) end
+    ∙ ap (λ n. eachProcess (taken (args .roll .now) (args .count) (collectiveOf (args .node))) n (args .state .now)) end
 
 pub complete-spec : {M : Type 1} → statement M
 complete-spec =

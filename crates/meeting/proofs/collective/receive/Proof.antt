@@ -3,8 +3,6 @@ use Rattle.meeting.proofs.CollectiveLaws.{is-barrier, is-broadcast, is-
 use Rattle.process.proofs.AloneLaws.{collective-range}
 use Rattle.rules.specs.Collective.{received}
 use native.Mathlib.Omega.{arith}
-use native.Mathlib.Nat.{mod-lt}
-use Prim.Native.Nat.{_%_, _<_}
 use borrow.Author.Needs.{needs}
 use Rattle.meeting.proofs.collective.receive.Statement.{statement}
 use Rattle.meeting.proofs.collective.receive.Tie as tie
@@ -24,20 +22,14 @@ returns c =
 source-of-requires : tie.Need-source-of-requires
 source-of-requires c κs = search needs
 
-cast-sender : tie.Need-cast-sender
-cast-sender c = search needs
-
-rem-sender : tie.Need-rem-sender
-rem-sender c = search needs
+cast-source : tie.Need-cast-source
+cast-source c = search needs
 
 cast-a : tie.Need-cast-a
 cast-a c = search needs
 
-value-of-requires : tie.Need-value-of-requires
-value-of-requires c κs =
-    let args = c .before .before .before .before .before .before .args in
-    let small : c .before .source-of .result % args .count < args .count = mod-lt _ (omega arith) in
-    omega arith
+sent-by-requires : tie.Need-sent-by-requires
+sent-by-requires c κs = search needs
 
 mul-words : tie.Need-mul-words
 mul-words c = search needs
@@ -56,7 +48,7 @@ returns-2 c =
     let args = c .before .before .before .before .before .before .before .args in
     rw (
       is-broadcast (args .node) (c .before .before .before .if2 .taken),
-      c .value-of .ensures,
+      c .sent-by .ensures,
       c .before .before .source-of .ensures,
     )
 
@@ -74,10 +66,9 @@ receive-spec =
     same-length
     returns
     source-of-requires
-    cast-sender
-    rem-sender
+    cast-source
     cast-a
-    value-of-requires
+    sent-by-requires
     mul-words
     slice-write-words
     same-length-2
