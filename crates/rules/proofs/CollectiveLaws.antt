@@ -29,6 +29,7 @@ module _ (roll : List ℕ) (count : ℕ) (k : Collective) (state : List ℕ) (si
   unfolding completedState
   completed-at p l = each-process-changed (taken roll count k) state count (taken-keeps roll count k) sized count p l (omega arith)
 
+-- what a process holds in a broadcast's variable
 broadcast-at : (roll state : List ℕ) (count a b c p : ℕ) → length state ≡ processWords * count → a < variablePlaces → p < count
     → getD (processAt (completedState roll count (broadcast a b c) state) p) a 0 ≡ sentBy roll count (arrivalSource roll p)
 unfolding received

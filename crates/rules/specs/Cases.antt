@@ -169,7 +169,7 @@ own-sources : sent 0 1 ≡ 7 ∷ 9 ∷ []
 unfolding opened broadcast-table sent
 own-sources = refl
 
--- "a source number at or above the number of banks gives every bank that names it zero": to both, and to the one that does
+-- "a source number at or above the number of banks gives every bank that names it zero": where both name it, and where one does
 source-at-count : sent 2 2 ≡ 0 ∷ 0 ∷ []
 unfolding opened broadcast-table sent
 source-at-count = refl
