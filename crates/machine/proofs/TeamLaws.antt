@@ -72,7 +72,6 @@ module _ {table : List ℕ} {header : Header} {state roll : List ℕ} {count p :
     meeting-of e h =
         record {
           rolled = with-arrival-length roll p arrival ∙ r .team .rolled;
-          some = r .team .some;
           few = r .team .few;
           meets = h;
           stored = λ k. broadcast-fits (ready-topped e) k .0;

@@ -35,7 +35,6 @@ arrivalAt roll p =
 -- a roll of `count` records, and the node of a collective
 pub record Meeting (roll : List ℕ) (count : ℕ) (node : Node) : Type 0 where
   pub rolled : length roll ≡ arrivalSize * count
-  pub some : 1 ≤ count
   pub few : count ≤ mostProcesses
   pub meets : isCollective (node .kind) ≡ true
   pub stored : node .kind ≡ 24 → node .a < variablePlaces
