@@ -28,6 +28,7 @@ pub mod MeetingView
 pub mod Stands
 pub mod Meeting
 pub mod TurnCases
+pub mod BufferedLaws
 pub mod SoundRun
 pub mod Together
 pub mod TogetherStep

@@ -14,4 +14,5 @@ pub mod Collective
 pub mod Start
 pub mod Step
 pub mod Run
+pub mod Buffered
 pub mod Cases

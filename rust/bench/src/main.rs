@@ -61,10 +61,12 @@ fn print_notes() {
     println!("Medians of {ROUNDS} rounds, library and Rust in turns, every piece of work in each");
     println!("round. No buffer is cleared first: a check leaves its scratch 0, steps go on from");
     println!(
-        "where the last one left state and roll, a start writes every word. Answers and words"
+        "where the last one left state and roll, a start writes every word. Before a step that"
     );
-    println!("were compared first. A table word's time is that of one call, shared among the");
-    println!("table's words; a whole stocktake has a call for its start and one for each step.");
+    println!("completes an exchange both sides put stacks and roll back, which is timed with it.");
+    println!("Answers and words were compared first. A table word's time is that of one call,");
+    println!("shared among the table's words; a whole stocktake has a call for its start and one");
+    println!("for each step.");
     println!("Of accepted: the library's time, divided by its time for `{FULL_CHECK}`.");
 }
 

@@ -1,6 +1,7 @@
 //! The plain Rust answers as the library does, also on tables and states that are not timed.
 
 use crate::refused::{self, Refused};
+use crate::work::{Work, LIBRARY, NATIVE};
 use crate::{inputs, native};
 use finchchaise::{Answer, Refusal, DOORS, PROCESS_WORDS, ROLL_WORDS, SCRATCH_WORDS};
 use finchchaise_compare::{damaged, leaving, random_bytes, small_table, stack, table};
@@ -130,4 +131,18 @@ fn loops_are_left_early_where_it_is_timed() {
         lent.step_alike(&table, 0).expect("a step");
     }
     assert!(left >= 10, "left {left} loops");
+}
+
+#[test]
+fn exchanges_are_completed_where_it_is_timed() {
+    for (nodes, procedures) in [(16, 1), (256, 16)] {
+        let mut library = Work::exchange(nodes, procedures);
+        let mut native = library.clone();
+        for _ in 0..3 {
+            library.once(LIBRARY);
+            native.once(NATIVE);
+            assert!(library.is_as_expected(), "{library:?}");
+            assert_eq!(library, native);
+        }
+    }
 }

@@ -3,7 +3,7 @@
 
 use crate::refused::{self, Refused};
 use crate::{inputs, native};
-use finchchaise::{Answer, Refusal, TeamStatus};
+use finchchaise::{Answer, Event, Refusal, TeamStatus, MOST_PROCESSES};
 use finchchaise::{DEPTH_AT, DOORS, PROCESS_WORDS, ROLL_WORDS, SCRATCH_WORDS, STACK, STACK_AT};
 use finchchaise_samples::stocktake;
 
@@ -11,6 +11,7 @@ use finchchaise_samples::stocktake;
 pub const FULL_CHECK: &str = "check, N 256, P 16";
 const STOCKTAKE_VARIABLES: usize = 4;
 const EXCHANGE: u8 = 25;
+const WAITING: u32 = 1;
 
 type Check = fn(&[u8], &mut [u32]) -> Result<(), Refusal>;
 type Start = fn(&[u8], u32, &[u32], &mut [u32], &mut [u32]) -> Result<(), Refusal>;
@@ -43,6 +44,8 @@ enum Task {
     Step,
     /// The same process's step each time.
     Idle,
+    /// The step of the process for which all others wait at an exchange.
+    Exchange,
     /// A start and all steps to the end.
     Run,
 }
@@ -55,6 +58,8 @@ pub struct Work {
     /// The question that the table fails first.
     pub refused_by: Option<u32>,
     processes: u32,
+    /// The exchange at which processes wait, if any do.
+    exchange: u32,
     start_words: Vec<u32>,
     scratch: Vec<u32>,
     state: Vec<u32>,
@@ -79,6 +84,7 @@ pub fn all() -> Vec<Work> {
     }
     all.push(Work::step_left_early());
     all.push(Work::idle());
+    all.extend([(16, 1), (256, 16)].map(|(nodes, procedures)| Work::exchange(nodes, procedures)));
     all.extend([2, 4, 16].map(Work::run));
     all.extend(refused::all().into_iter().map(Work::refused_check));
     all
@@ -95,6 +101,7 @@ impl Work {
             table,
             refused_by: None,
             processes,
+            exchange: 0,
             start_words: given.repeat(count),
             scratch: vec![0; SCRATCH_WORDS],
             state: vec![0; count * PROCESS_WORDS],
@@ -150,26 +157,52 @@ impl Work {
         Work::step_of(what, inputs::left_early(256, 16).bytes(), 4)
     }
 
+    /// Steps of the most processes, some of which are to wait at an exchange.
+    fn at_exchange(what: String, task: Task, nodes: usize, procedures: usize) -> Work {
+        let work = Work::step(nodes, procedures, MOST_PROCESSES as u32);
+        let words = work.table.iter().step_by(4).skip(2 + procedures);
+        let exchange = words
+            .map(|byte| byte >> 3)
+            .position(|kind| kind == EXCHANGE);
+        Work {
+            what,
+            task,
+            exchange: exchange.expect("an exchange") as u32,
+            ..work
+        }
+    }
+
     /// The most that a step can have to read: every stack is full. Process 0 waits, so nothing
     /// changes.
     fn idle() -> Work {
-        let mut work = Work::step(256, 16, 16);
-        work.what = "step of a waiting process, all stacks full".to_string();
-        work.task = Task::Idle;
-        let kinds = work
-            .table
-            .iter()
-            .skip(4 * 18)
-            .step_by(4)
-            .map(|byte| byte >> 3);
-        let exchange = kinds.into_iter().position(|kind| kind == EXCHANGE);
-        let node = exchange.expect("an exchange") as u32;
+        let what = "step of a waiting process, all stacks full".to_string();
+        let mut work = Work::at_exchange(what, Task::Idle, 256, 16);
+        let node = work.exchange;
         for words in work.state.chunks_exact_mut(PROCESS_WORDS) {
             words[DEPTH_AT] = STACK as u32;
             words[STACK_AT..].fill(node);
         }
-        work.roll[..2].copy_from_slice(&[1, node]);
+        work.roll[..2].copy_from_slice(&[WAITING, node]);
         work
+    }
+
+    pub fn exchange(nodes: usize, procedures: usize) -> Work {
+        let size = format!("N {nodes}, P {procedures}, processes {MOST_PROCESSES}");
+        let what = format!("step that completes an exchange, {size}");
+        Work::at_exchange(what, Task::Exchange, nodes, procedures)
+    }
+
+    /// All processes but the first, which runs, wait at the exchange that each has on top. Undoes
+    /// what the step before has changed, but for the gathered words.
+    fn wait_for_first(&mut self) {
+        let node = self.exchange;
+        for words in self.state.chunks_exact_mut(PROCESS_WORDS) {
+            words[DEPTH_AT] = 2;
+            words[STACK_AT..][..2].fill(node);
+        }
+        for (record, value) in self.roll.chunks_exact_mut(ROLL_WORDS).zip(0..).skip(1) {
+            record.copy_from_slice(&[WAITING, node, value, 0]);
+        }
     }
 
     fn run(processes: u32) -> Work {
@@ -188,6 +221,10 @@ impl Work {
                 self.checked = (side.check)(&self.table, &mut self.scratch);
             }
             Task::Step | Task::Idle => {
+                self.take_step(side);
+            }
+            Task::Exchange => {
+                self.wait_for_first();
                 self.take_step(side);
             }
             Task::Run => {
@@ -212,16 +249,24 @@ impl Work {
         } = self;
         let answer = (side.step)(table, state, roll, self.next);
         self.calls += 1;
-        if self.task != Task::Idle {
+        if matches!(self.task, Task::Step | Task::Run) {
             self.next = (self.next + 1) % self.processes;
         }
         self.stepped = Some(answer);
         answer.ok().map(|answer| answer.team)
     }
 
-    /// Only a refused check may be refused, and by its question: another takes another time.
+    /// Only a refused check may be refused, and by its question, and an exchange must be completed:
+    /// another call takes another time.
     pub fn is_as_expected(&self) -> bool {
         let refused_by = self.checked.err().map(|refusal| refusal.number);
-        refused_by == self.refused_by && !matches!(self.stepped, Some(Err(_)))
+        let is_stepped = match self.stepped {
+            Some(Ok(Answer { event, .. })) => {
+                self.task != Task::Exchange || event == Event::Completed(self.exchange)
+            }
+            Some(Err(_)) => false,
+            None => true,
+        };
+        refused_by == self.refused_by && is_stepped
     }
 }
