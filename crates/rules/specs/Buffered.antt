@@ -1,6 +1,5 @@
--- "Exchange without the temporary": the exchange as it is done with one, a buffer that takes the values of all processes before
--- any gathered word is written, and the step that uses it. `SameAsBuffered` says that no call can tell that step from `stepped`.
--- Nothing else cites this file.
+-- "Exchange without the temporary": an exchange with one, a buffer that takes the values of all processes before any gathered word
+-- is written, and the step that uses it. `SameAsBuffered` says that this step is `stepped`; nothing else cites this file.
 use mathlib.Core.Bool.{cond}
 use mathlib.Core.List.{List}
 use mathlib.Core.Path.{_≡_}
@@ -17,11 +16,11 @@ use Rattle.rules.specs.Process.{gatheredAt, processAt, eachProcess, envi
 use Rattle.rules.specs.Step.{Outcome, taken, processesIn, stepVerdict, stepRunning, stepTaken, steppedBy, stepped}
 use Rattle.rules.specs.Table.{Collective, barrier, broadcast, exchange, statementAt, onCollective}
 
--- the temporary: the value of process 0, of process 1, and so on
+-- the temporary: the values of process 0, of process 1, and so on
 unfoldable pub buffer : List ℕ → ℕ → List ℕ
 buffer roll count = below (λ earlier p. arrivalValue roll p) count
 
--- the values are gathered first, then written into each process's gathered words; any other collective has no buffer
+-- the values are gathered first, then written into each process's gathered words; the other collectives have no buffer
 unfoldable pub bufferedState : List ℕ → ℕ → Collective → List ℕ → List ℕ
 bufferedState roll count barrier state = completedState roll count barrier state
 bufferedState roll count (broadcast a b c) state = completedState roll count (broadcast a b c) state
@@ -29,19 +28,19 @@ bufferedState roll count (exchange a) state =
     let values = buffer roll count in
     eachProcess (λ p words. popped (sets words gatheredAt values)) count state
 
--- `completed`, with that state
+-- as `completed`, with that state
 unfoldable pub bufferedCompleted : List ℕ → List ℕ → ℕ → ℕ → Collective → Outcome
 bufferedCompleted state roll count node meeting =
     let after = bufferedState roll count meeting state in
     taken (Completed node) (teamStatus (releasedRoll after count roll) count) after (releasedRoll after count roll)
 
--- `arrivedAt`
+-- as `arrivedAt`
 unfoldable pub bufferedArrived : List ℕ → List ℕ → ℕ → ℕ → Collective → Outcome
 bufferedArrived state roll count node meeting =
     cond (allAtOneNode roll count) (bufferedCompleted state roll count node meeting)
     (taken (Arrived node) (teamStatus roll count) state roll)
 
--- `stepRunning`, which still has every statement that is no collective
+-- as `stepRunning`, which has the statements that are no collective
 unfoldable pub bufferedRunning : List ℕ → List ℕ → List ℕ → ℕ → ℕ → Outcome
 bufferedRunning table state roll count p =
     onCollective (statementAt table (top (processAt state p)))
@@ -51,7 +50,7 @@ bufferedRunning table state roll count p =
     count (top (processAt state p)) meeting)
     (stepRunning table state roll count p)
 
--- the step: idle and refused ones are those of `stepTaken` and `steppedBy`
+-- as `steppedBy`, which has the refusals; an idle step is that of `stepTaken`
 unfoldable pub bufferedBy : Verdict → List ℕ → List ℕ → List ℕ → ℕ → Outcome
 bufferedBy Accepted table state roll p =
     cond (eqb (statusAt roll p) running) (bufferedRunning table state roll (processesIn roll) p)
