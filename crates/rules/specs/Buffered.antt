@@ -34,7 +34,7 @@ bufferedCompleted state roll count node meeting =
     let after = bufferedState roll count meeting state in
     taken (Completed node) (teamStatus (releasedRoll after count roll) count) after (releasedRoll after count roll)
 
--- as `arrivedAt`
+-- as `arrivedAt`, with that outcome
 unfoldable pub bufferedArrived : List ℕ → List ℕ → ℕ → ℕ → Collective → Outcome
 bufferedArrived state roll count node meeting =
     cond (allAtOneNode roll count) (bufferedCompleted state roll count node meeting)

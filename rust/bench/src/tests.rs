@@ -1,7 +1,7 @@
 //! The plain Rust answers as the library does, also on tables and states that are not timed.
 
 use crate::refused::{self, Refused};
-use crate::work::{Work, LIBRARY, NATIVE};
+use crate::work::{self, LIBRARY, NATIVE};
 use crate::{inputs, native};
 use finchchaise::{Answer, Refusal, DOORS, PROCESS_WORDS, ROLL_WORDS, SCRATCH_WORDS};
 use finchchaise_compare::{damaged, leaving, random_bytes, small_table, stack, table};
@@ -133,10 +133,10 @@ fn loops_are_left_early_where_it_is_timed() {
     assert!(left >= 10, "left {left} loops");
 }
 
+/// Each piece of work more than once, since it goes on from what it has left.
 #[test]
-fn exchanges_are_completed_where_it_is_timed() {
-    for (nodes, procedures) in [(16, 1), (256, 16)] {
-        let mut library = Work::exchange(nodes, procedures);
+fn timed_work_is_done_alike_and_as_expected() {
+    for mut library in work::all() {
         let mut native = library.clone();
         for _ in 0..3 {
             library.once(LIBRARY);

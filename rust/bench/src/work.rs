@@ -81,10 +81,10 @@ pub fn all() -> Vec<Work> {
     all.push(Work::check_left_early());
     for (nodes, procedures) in [(16, 1), (256, 16)] {
         all.extend([1, 4, 16].map(|processes| Work::step(nodes, procedures, processes)));
+        all.push(Work::exchange(nodes, procedures));
     }
     all.push(Work::step_left_early());
     all.push(Work::idle());
-    all.extend([(16, 1), (256, 16)].map(|(nodes, procedures)| Work::exchange(nodes, procedures)));
     all.extend([2, 4, 16].map(Work::run));
     all.extend(refused::all().into_iter().map(Work::refused_check));
     all
@@ -186,7 +186,7 @@ impl Work {
         work
     }
 
-    pub fn exchange(nodes: usize, procedures: usize) -> Work {
+    fn exchange(nodes: usize, procedures: usize) -> Work {
         let size = format!("N {nodes}, P {procedures}, processes {MOST_PROCESSES}");
         let what = format!("step that completes an exchange, {size}");
         Work::at_exchange(what, Task::Exchange, nodes, procedures)
