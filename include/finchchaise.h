@@ -89,6 +89,19 @@ typedef struct FcStep {
 } FcStep;
 
 /*
+ * The answer to fc_serve: how many turns were made, and the process that had the last of them, or
+ * the one given if none was made. number and place are 0 if nothing was refused; if turns were left
+ * then, no process runs. Otherwise they are the refusal of the call, which made no turn, or of the
+ * turn that would have come next.
+ */
+typedef struct FcServe {
+    uint32_t made;
+    uint32_t last;
+    uint32_t number;
+    uint32_t place;
+} FcServe;
+
+/*
  * An answer of fc_check and fc_start is 0, or for a refusal its number times 2^32 plus its place.
  * Numbers begin with 1, so a refusal is never 0.
  */
@@ -118,12 +131,25 @@ uint64_t fc_start(const uint8_t *table, size_t table_length, uint32_t processes,
 /*
  * One step of one process, counted from 0. Numbers of a refusal: 2 to 12, 20 to 24 and 26.
  *
- * table, state and roll are those of the start, with nothing written to them since but by fc_step.
- * The number of processes is roll_length / FC_ROLL_WORDS. A refused step writes no word, and neither does one
- * with the event waits or ended.
+ * table, state and roll are those of the start, with nothing written to them since but by fc_step
+ * and fc_serve. The number of processes is roll_length / FC_ROLL_WORDS. A refused step writes no
+ * word, and neither does one with the event waits or ended.
  */
 FcStep fc_step(const uint8_t *table, size_t table_length, uint32_t *state, size_t state_length,
                uint32_t *roll, size_t roll_length, uint32_t process);
+
+/*
+ * Makes up to so many turns, until they are used or no process runs. Each is a step of the first
+ * running process after the one that had the turn before (the first turn: after last), cyclically,
+ * that one itself coming last.
+ *
+ * table, state and roll are as for fc_step, and with those only number 22 refuses. Numbers 2 to 12,
+ * 20 to 23 and 26 are asked at the call, also if turns is 0; 22 says that the roll lacks last. Then
+ * 23 and 24 are asked of each turn; one that would be refused is not made, and those before it
+ * stand. A refused call writes no word; a turn writes what its step would.
+ */
+FcServe fc_serve(const uint8_t *table, size_t table_length, uint32_t *state, size_t state_length,
+                 uint32_t *roll, size_t roll_length, uint32_t last, uint32_t turns);
 
 /*
  * Copies a process's latches into out, or as many of them as out has room for, lowest first, and

@@ -1,6 +1,7 @@
 /*
- * Runs table T2 on two banks, as a host would: check, start, then turns until the site is done.
- * It prints what the run program prints for the same turns. examples/c/run builds it and compares.
+ * Runs table T2 on two banks, as a host would: check, start, then turns until the site is done. The
+ * library shares the turns out first. Then the host does, in another order, and prints what the run
+ * program prints for the same turns. examples/c/run builds this and compares.
  */
 #include "finchchaise.h"
 
@@ -8,6 +9,7 @@
 
 #define PROCESSES 2
 #define VARIABLES 1
+#define TURNS 3
 
 /* If there are any banks then a barrier, else nothing. */
 static const uint8_t table[] = {
@@ -36,6 +38,44 @@ static int refused(uint32_t number, uint32_t place)
     return 1;
 }
 
+/* Every variable and door starts with 0. */
+static int start(void)
+{
+    uint64_t answer = fc_start(table, sizeof table, PROCESSES, start_words, LENGTH(start_words),
+                               state, LENGTH(state), roll, LENGTH(roll));
+    return answer == 0 ? 0 : refused(fc_number(answer), fc_place(answer));
+}
+
+/* How the site stands, by the roll. */
+static const char *site(void)
+{
+    int all_ended = 1;
+    for (uint32_t process = 0; process < PROCESSES; process++) {
+        uint32_t status = roll[FC_ROLL_WORDS * process];
+        if (status == FC_RUNNING)
+            return sites[FC_SITE_GOING];
+        all_ended &= status == FC_ENDED;
+    }
+    return sites[all_ended ? FC_SITE_DONE : FC_SITE_CROSSED];
+}
+
+/* A few turns a call, until no bank runs. Bank 0 is served first: it comes after the last one. */
+static int serve(void)
+{
+    FcServe served;
+    uint32_t last = PROCESSES - 1;
+    printf("made last site\n");
+    do {
+        served = fc_serve(table, sizeof table, state, LENGTH(state), roll, LENGTH(roll), last,
+                          TURNS);
+        last = served.last;
+        printf("%u %u %s\n", (unsigned)served.made, (unsigned)last, site());
+        if (served.number != 0)
+            return refused(served.number, served.place);
+    } while (served.made == TURNS);
+    return 0;
+}
+
 /* Each bank in turn takes two turns. */
 static int run(void)
 {
@@ -58,11 +98,7 @@ int main(void)
         return refused(fc_number(answer), fc_place(answer));
     printf("accepted\n");
 
-    answer = fc_start(table, sizeof table, PROCESSES, start_words, LENGTH(start_words), state,
-                      LENGTH(state), roll, LENGTH(roll));
-    if (answer != 0)
-        return refused(fc_number(answer), fc_place(answer));
-    if (run() != 0)
+    if (start() != 0 || serve() != 0 || start() != 0 || run() != 0)
         return 1;
 
     uint32_t latches[FC_LATCHES];

@@ -8,8 +8,10 @@ use Rattle.rules.specs.declared.Stepped.{Stepped}
 use Rattle.rules.specs.declared.Stepped.the-variants.{Taken, Refused}
 use Rattle.rules.specs.declared.Verdict.{Verdict}
 use Rattle.rules.specs.declared.Verdict.the-variants.{Accepted, Refused as Failed}
+use Rattle.rules.specs.Scheduling.{Served}
 use Rattle.rules.specs.Start.{Started}
 use Rattle.rules.specs.Step.{Outcome}
+use Rattle.ffi.specs.declared.FcServe.{FcServe}
 use Rattle.ffi.specs.declared.FcStep.{FcStep}
 
 -- 0 for accepted, otherwise number × 2^32 + place
@@ -40,6 +42,17 @@ pub record StepNumbers (outcome : Outcome) (numbers : FcStep) (state roll : List
   pub answered : numbers ≡ stepNumbers (outcome .answer)
   pub left : state ≡ outcome .state
   pub written : roll ≡ outcome .roll
+
+-- number 0 for a call to which no refusal was added
+abbrev pub refusalNumbers : ℕ → ℕ → Verdict → FcServe
+refusalNumbers made last Accepted = record { made = made; last = last; number = 0; place = 0 }
+refusalNumbers made last (Failed r) = record { made = made; last = last; number = r .number; place = r .place }
+
+-- a call's numbers, and the state and the roll after it
+pub record ServeNumbers (end : Served) (numbers : FcServe) (state roll : List ℕ) : Type 0 where
+  pub answered : numbers ≡ refusalNumbers (end .made) (end .last) (end .answer)
+  pub left : state ≡ end .state
+  pub written : roll ≡ end .roll
 
 -- how many of the words fit the place lent for them, and that place after the copy
 abbrev pub copiedCount : List ℕ → List ℕ → ℕ

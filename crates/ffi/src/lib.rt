@@ -6,15 +6,19 @@ ghost use Prim.Native.Nat.{_≤_, min};
 ghost use lib.ListN.{length, take, drop};
 ghost use Rattle.rules.specs.Acceptance.{checked, checkedScratch};
 ghost use Rattle.rules.specs.Answers.{eventNumber, eventNode, teamNumber};
+ghost use Rattle.rules.specs.Scheduling.{served};
 ghost use Rattle.rules.specs.Start.{started, latchesOf};
 ghost use Rattle.rules.specs.Step.{stepped};
-ghost use Rattle.ffi.specs.Numbers.{verdictNumber, stepNumbers, copiedCount, copied, StartNumbers, StepNumbers};
+ghost use Rattle.ffi.specs.Numbers.{verdictNumber, stepNumbers, refusalNumbers, copiedCount, copied};
+ghost use Rattle.ffi.specs.Numbers.{StartNumbers, StepNumbers, ServeNumbers};
 use checker::check;
 use machine::team;
 use rules::Event;
 use rules::Stepped;
 use rules::TeamStatus;
 use rules::Verdict;
+use scheduler::Service;
+use scheduler::serve;
 
 // A step's answer in numbers. `number` 0: the step was taken.
 #[repr(C)]
@@ -24,6 +28,15 @@ pub struct FcStep {
     pub event: u32,
     pub node: u32,
     pub site: u32,
+}
+
+// The answer to a call that serves. `number` 0: no refusal was added.
+#[repr(C)]
+pub struct FcServe {
+    pub made: u32,
+    pub last: u32,
+    pub number: u32,
+    pub place: u32,
 }
 
 fn verdict_number(verdict: Verdict) -> u64
@@ -96,6 +109,28 @@ fn step_numbers(stepped: Stepped) -> FcStep
     }
 }
 
+fn serve_numbers(service: Service) -> FcServe
+    ensures { λ r. ⌜ r ≡ refusalNumbers (service .made) (service .last) (service .answer) ⌝ }
+{
+    let made = service.made;
+    let last = service.last;
+    let answer = service.answer;
+    match answer {
+        Verdict::Accepted => FcServe {
+            made,
+            last,
+            number: 0,
+            place: 0,
+        },
+        Verdict::Refused(added) => FcServe {
+            made,
+            last,
+            number: added.number,
+            place: added.place,
+        },
+    }
+}
+
 fn lesser(a: usize, b: usize) -> usize
     ensures { λ r. ⌜ r ≡ min a b ⌝ }
 {
@@ -145,6 +180,21 @@ pub extern "C" fn fc_step(table: &[u8], state: &mut [u32], roll: &mut [u32], pro
         r (now (state .exit)) (now (roll .exit)) ⌝ }
 {
     step_numbers(team::step(table, state, roll, process))
+}
+
+// So many turns, round robin, after the process served last.
+#[no_mangle]
+pub extern "C" fn fc_serve(
+    table: &[u8],
+    state: &mut [u32],
+    roll: &mut [u32],
+    last: u32,
+    turns: u32,
+) -> FcServe
+    ensures { λ r. ⌜ ServeNumbers (served (now (table .entry)) (now (state .entry)) (now (roll .entry)) last turns)
+        r (now (state .exit)) (now (roll .exit)) ⌝ }
+{
+    serve_numbers(serve(table, state, roll, last, turns))
 }
 
 // The latches of one process, as many as fit. How many were copied.

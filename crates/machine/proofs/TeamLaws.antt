@@ -35,7 +35,7 @@ module _ {table : List ℕ} {header : Header} {state roll : List ℕ} {count p :
   ready-topped e = run-topped (r .team) (r .within) (r .fits p (r .within)) runs e
 
   -- 24: a full stack has no statement on top that needs a place
-  ready-place : needsPlace table (environment (processAt state p) p count) (statementAt table (top (processAt state p))) ≡ true
+  pub ready-place : needsPlace table (environment (processAt state p) p count) (statementAt table (top (processAt state p))) ≡ true
       → depth (processAt state p) < stackPlaces
   unfolding placeLacked
   ready-place needs =

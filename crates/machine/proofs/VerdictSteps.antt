@@ -1,34 +1,31 @@
 -- From the questions that the code has put to the answer of a start or a step.
 use mathlib.Core.Bool.{Bool, true, false, cond, _&&_}
 use mathlib.Core.List.{List}
-use mathlib.Core.Path.{_≡_, refl, _∙_, ap}
+use mathlib.Core.Path.{_≡_, refl, sym, _∙_, ap}
 use Prim.Native.Nat.{ℕ, _*_}
 use native.Mathlib.Omega.{arith}
 use lib.Dec.{leb, ltb, eqb}
 use lib.ListN.{length}
-use borrow.Author.Tests.{leb-true, ltb-true, eqb-true}
+use borrow.Author.Tests.{leb-true, ltb-true, eqb-true, not-true}
 use Rattle.rules.specs.declared.Refusal.{Refusal}
 use Rattle.rules.specs.declared.Stepped.the-variants.{Refused}
 use Rattle.rules.specs.declared.Verdict.{Verdict}
 use Rattle.rules.specs.declared.Verdict.the-variants.{Accepted, Refused as Failed}
 use Rattle.rules.specs.Answers.{_then_, askEach}
-use Rattle.rules.specs.Arrivals.{arrivalSize}
+use Rattle.rules.specs.Arrivals.{arrivalSize, allAtOneNode}
 use Rattle.rules.specs.Process.{processWords, mostProcesses}
 use Rattle.rules.specs.Start.{question18, question19, question20, question21}
 use Rattle.rules.specs.Start.{startSize, startVerdict, startState, startRoll, started, startedBy}
-use Rattle.rules.specs.Step.{question22, question23, question24, processesIn, processFits, placeLacked}
-use Rattle.rules.specs.Step.{stepVerdict, stepTaken, steppedBy, stepped}
+use Rattle.rules.specs.Step.{question22, question23, processesIn, processFits, placeLacked}
+use Rattle.rules.specs.Step.{teamVerdict, stepVerdict, stepTaken, steppedBy, stepped}
 use Rattle.rules.specs.WellFormed.{wellFormed}
-use Rattle.rules.proofs.AnswerLaws.{both-left, both-right, then-first, then-rest, ask-holds, each-passed}
+use Rattle.rules.proofs.AnswerLaws.{both-left, both-right, then-first, then-rest, then-assoc, ask-holds, each-passed}
 use Rattle.table.specs.declared.Header.{Header}
+use Rattle.table.specs.Header.{headerOf}
 use Rattle.process.specs.Given.{Read}
 use Rattle.machine.specs.Layout.{Startable, Starts}
 use Rattle.questions.specs.Asked.{Team}
-use Rattle.machine.specs.Outcomes.{Ready, Gives}
-
-then-assoc : (a b c : Verdict) → (a then (b then c)) ≡ ((a then b) then c)
-then-assoc Accepted b c = refl
-then-assoc (Failed r) b c = refl
+use Rattle.machine.specs.Outcomes.{Asked, Ready, Gives}
 
 -- a question that refuses decides, and one that holds leaves the answer to the next
 after-refusal : {a : Verdict} (b : Verdict) {r : Refusal} → a ≡ Failed r → (a then b) ≡ Failed r
@@ -37,10 +34,6 @@ after-refusal b e = rw e
 after-accepted : {a : Verdict} (b : Verdict) → a ≡ Accepted → (a then b) ≡ b
 after-accepted b e = rw e
 
-holds-not : (holds : Bool) (r : Refusal) → cond holds (Failed r) Accepted ≡ Accepted → holds ≡ false
-holds-not true r e = let z : _≡_ {A = ℕ} 0 1 = cc in absurd (omega arith)
-holds-not false r e = refl
-
 holds-so : (holds : Bool) (r : Refusal) → cond holds Accepted (Failed r) ≡ Accepted → holds ≡ true
 holds-so true r e = refl
 holds-so false r e = let z : _≡_ {A = ℕ} 0 1 = cc in absurd (omega arith)
@@ -48,44 +41,29 @@ holds-so false r e = let z : _≡_ {A = ℕ} 0 1 = cc in absurd (omega arith)
 abbrev pub sizes : List ℕ → List ℕ → Verdict
 sizes state roll = question21 (processesIn roll) roll then question20 (processesIn roll) state
 
-abbrev pub process : List ℕ → List ℕ → List ℕ → ℕ → ℕ → Verdict
-process table state roll count p =
-    question22 count p then question23 table state roll count then question24 table state roll count p
+abbrev pub standing : List ℕ → List ℕ → List ℕ → ℕ → ℕ → Verdict
+standing table state roll count p = question22 count p then question23 table state roll count
 
 module _ (table state roll : List ℕ) (p : ℕ) where
-  in-parts : stepVerdict table state roll p
-      ≡ (wellFormed table then (sizes state roll then process table state roll (processesIn roll) p))
-  unfolding stepVerdict
+  in-parts : teamVerdict table state roll p
+      ≡ (wellFormed table then (sizes state roll then standing table state roll (processesIn roll) p))
+  unfolding teamVerdict
   in-parts =
       ap (λ v. wellFormed table then v)
+      (sym
       (then-assoc (question21 (processesIn roll) roll) (question20 (processesIn roll) state)
-      (process table state roll (processesIn roll) p))
+      (standing table state roll (processesIn roll) p)))
 
-  denied : {r : Refusal} → stepVerdict table state roll p ≡ Failed r
-      → Gives (stepped table state roll p) (Refused r) state roll
-  unfolding stepped steppedBy
-  denied e = rw e (record { answered = refl; left = refl; written = refl })
-
-  pub denied-form : {r : Refusal} → wellFormed table ≡ Failed r → Gives (stepped table state roll p) (Refused r) state roll
-  denied-form e = denied (in-parts ∙ after-refusal _ e)
+  pub unformed : {r : Refusal} → wellFormed table ≡ Failed r → teamVerdict table state roll p ≡ Failed r
+  unformed e = in-parts ∙ after-refusal _ e
 
   module _ (formed : wellFormed table ≡ Accepted) where
-    pub denied-sizes : {r : Refusal} → sizes state roll ≡ Failed r
-        → Gives (stepped table state roll p) (Refused r) state roll
-    denied-sizes e = denied (in-parts ∙ after-accepted _ formed ∙ after-refusal _ e)
+    pub unsized : {r : Refusal} → sizes state roll ≡ Failed r → teamVerdict table state roll p ≡ Failed r
+    unsized e = in-parts ∙ after-accepted _ formed ∙ after-refusal _ e
 
     module _ (sized : sizes state roll ≡ Accepted) where
-      left-over : stepVerdict table state roll p ≡ process table state roll (processesIn roll) p
+      pub left-over : teamVerdict table state roll p ≡ standing table state roll (processesIn roll) p
       left-over = in-parts ∙ after-accepted _ formed ∙ after-accepted _ sized
-
-      pub denied-process : {r : Refusal} → process table state roll (processesIn roll) p ≡ Failed r
-          → Gives (stepped table state roll p) (Refused r) state roll
-      denied-process e = denied (left-over ∙ e)
-
-      pub taken-step : process table state roll (processesIn roll) p ≡ Accepted
-          → stepped table state roll p ≡ stepTaken table state roll (processesIn roll) p
-      unfolding stepped steppedBy
-      taken-step e = rw (left-over ∙ e)
 
       question-21 : (eqb (length roll) (arrivalSize * processesIn roll) && leb 1 (processesIn roll) && leb (processesIn roll) mostProcesses) ≡ true
       question-21 = ask-holds 21 _ (then-first (question21 (processesIn roll) roll) (question20 (processesIn roll) state) sized)
@@ -103,29 +81,57 @@ module _ (table state roll : List ℕ) (p : ℕ) where
             rolled = eqb-true (length roll) (arrivalSize * n) (both-left (eqb (length roll) (arrivalSize * n)) (leb 1 n) front);
           }
 
--- questions 22 to 24 hold
-module _ {table : List ℕ} {header : Header} {state roll : List ℕ} {count : ℕ} (p : ℕ)
-    (team : Team table header state roll count)
-    (holds : process table state roll count p ≡ Accepted) where
-  within : ltb p count ≡ true
-  within = holds-so (ltb p count) (record { number = 22; place = p }) (then-first (question22 count p) _ holds)
+  -- the questions up to 23 hold
+  module _ (holds : teamVerdict table state roll p ≡ Accepted) where
+    pub asked-formed : wellFormed table ≡ Accepted
+    asked-formed = then-first (wellFormed table) _ (sym in-parts ∙ holds)
 
-  later : (question23 table state roll count then question24 table state roll count p) ≡ Accepted
-  later = then-rest (question22 count p) _ holds
+    after-form : (sizes state roll then standing table state roll (processesIn roll) p) ≡ Accepted
+    after-form = then-rest (wellFormed table) _ (sym in-parts ∙ holds)
 
-  pub ready-of : Ready table header state roll count p
-  ready-of =
-      record {
-        team = team;
-        within = ltb-true p count within;
-        fits = λ q l.
-            each-passed 23 count (processFits table state roll)
-            (then-first (askEach 23 count (processFits table state roll)) _
-            (then-first (question23 table state roll count) _ later))
-            q l;
-        place = holds-not (placeLacked table state roll count p) (record { number = 24; place = p })
-            (then-rest (question23 table state roll count) (question24 table state roll count p) later);
-      }
+    after-sizes : standing table state roll (processesIn roll) p ≡ Accepted
+    after-sizes = then-rest (sizes state roll) _ after-form
+
+    pub asked-of : {header : Header} → header ≡ headerOf table → Asked table header state roll (processesIn roll) p
+    asked-of h =
+        let last = then-rest (question22 (processesIn roll) p) _ after-sizes in
+        let each = askEach 23 (processesIn roll) (processFits table state roll) in
+        record {
+          team = team-of asked-formed (then-first (sizes state roll) _ after-form)
+              (record { well-formed = asked-formed; headed = h });
+          within = ltb-true p (processesIn roll)
+              (holds-so (ltb p (processesIn roll)) (record { number = 22; place = p })
+              (then-first (question22 (processesIn roll) p) _ after-sizes));
+          fits = each-passed 23 (processesIn roll) (processFits table state roll) (then-first each _ last);
+          apart = not-true (allAtOneNode roll (processesIn roll)) (ask-holds 23 _ (then-rest each _ last));
+        }
+
+  -- a step by its questions
+  denied : {r : Refusal} → stepVerdict table state roll p ≡ Failed r
+      → Gives (stepped table state roll p) (Refused r) state roll
+  unfolding stepped steppedBy
+  denied e = rw e (record { answered = refl; left = refl; written = refl })
+
+  pub denied-team : {r : Refusal} → teamVerdict table state roll p ≡ Failed r
+      → Gives (stepped table state roll p) (Refused r) state roll
+  unfolding stepVerdict
+  denied-team e = denied (after-refusal _ e)
+
+  module _ (holds : teamVerdict table state roll p ≡ Accepted) where
+    pub denied-place : placeLacked table state roll (processesIn roll) p ≡ true
+        → Gives (stepped table state roll p) (Refused (record { number = 24; place = p })) state roll
+    unfolding stepVerdict
+    denied-place e = denied (rw (holds, e))
+
+    pub taken-step : placeLacked table state roll (processesIn roll) p ≡ false
+        → stepped table state roll p ≡ stepTaken table state roll (processesIn roll) p
+    unfolding stepped steppedBy stepVerdict
+    taken-step e = rw (holds, e)
+
+-- questions up to 23 hold, and 24 does
+pub ready-of : {table : List ℕ} {header : Header} {state roll : List ℕ} {count p : ℕ} → Asked table header state roll count p
+    → placeLacked table state roll count p ≡ false → Ready table header state roll count p
+ready-of asked e = record { team = asked .team; within = asked .within; fits = asked .fits; place = e }
 
 module _ (table : List ℕ) (count : ℕ) (words state roll : List ℕ) where
   abbrev pub asked : Verdict

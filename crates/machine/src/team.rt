@@ -3,18 +3,19 @@
 ghost use mathlib.Core.Path.{_≡_};
 ghost use Prim.Native.Nat.{_*_, _/_};
 ghost use Rattle.rules.specs.declared.Verdict.the-variants.{Accepted};
-ghost use Rattle.rules.specs.Answers.{_then_};
-ghost use Rattle.rules.specs.Start.{question20, question21, started, latchesOf};
-ghost use Rattle.rules.specs.Step.{processesIn, stepped};
+ghost use Rattle.rules.specs.Start.{started, latchesOf};
+ghost use Rattle.rules.specs.Step.{teamVerdict, stepped};
 ghost use Rattle.rules.specs.WellFormed.{wellFormed};
 ghost use Rattle.machine.specs.Layout.{Starts};
 ghost use Rattle.machine.specs.Outcomes.{Gives};
 use crate::start::start_roll;
 use crate::start::start_state;
 use crate::turn::take_turn;
-use questions::process_asked;
+use questions::place_lacked;
 use questions::sizes_asked;
 use questions::start_asked;
+use questions::team_asked;
+use rules::Refusal;
 use rules::Stepped;
 use rules::Verdict;
 use rules::layout::ARRIVAL_WORDS;
@@ -68,32 +69,47 @@ pub fn start(
     }
 }
 
-fn step_sized(table: &[u8], state: &mut [u32], roll: &mut [u32], process: u32) -> Stepped
+// Questions 21, 20, 22 and 23 of a table that is well formed.
+fn formed_asked(table: &[u8], state: &[u32], roll: &[u32], process: u32) -> Verdict
     requires { ⌜ wellFormed (now table) ≡ Accepted ⌝ }
-    requires { ⌜ (question21 (processesIn (now roll)) (now roll) then question20 (processesIn (now roll)) (now state))
-        ≡ Accepted ⌝ }
+    ensures { λ r. ⌜ r ≡ teamVerdict (now (table .entry)) (now (state .entry)) (now (roll .entry)) process ⌝ }
+{
+    let sizes = sizes_asked(state, roll);
+    match sizes {
+        Verdict::Refused(refusal) => Verdict::Refused(refusal),
+        Verdict::Accepted => {
+            let count = (roll.len() / ARRIVAL_WORDS) as u32;
+            team_asked(table, header(table), state, roll, count, process)
+        }
+    }
+}
+
+// A step's questions up to 23.
+pub fn asked(table: &[u8], state: &[u32], roll: &[u32], process: u32) -> Verdict
+    ensures { λ r. ⌜ r ≡ teamVerdict (now (table .entry)) (now (state .entry)) (now (roll .entry)) process ⌝ }
+{
+    let mut planes = [0u32; PLANE_WORDS];
+    let formed = well_formed(table, &mut planes);
+    match formed {
+        Verdict::Refused(refusal) => Verdict::Refused(refusal),
+        Verdict::Accepted => formed_asked(table, state, roll, process),
+    }
+}
+
+fn step_asked(table: &[u8], state: &mut [u32], roll: &mut [u32], process: u32) -> Stepped
+    requires { ⌜ teamVerdict (now table) (now state) (now roll) process ≡ Accepted ⌝ }
     ensures { λ r. ⌜ Gives (stepped (now (table .entry)) (now (state .entry)) (now (roll .entry)) process)
         r (now (state .exit)) (now (roll .exit)) ⌝ }
 {
     let count = (roll.len() / ARRIVAL_WORDS) as u32;
     let head = header(table);
-    let asked = process_asked(table, head, state, roll, count, process);
-    match asked {
-        Verdict::Refused(refusal) => Stepped::Refused(refusal),
-        Verdict::Accepted => take_turn(table, head, state, roll, count, process as usize),
+    if place_lacked(table, head, state, roll, count, process as usize) {
+        return Stepped::Refused(Refusal {
+            number: 24,
+            place: process,
+        });
     }
-}
-
-fn step_formed(table: &[u8], state: &mut [u32], roll: &mut [u32], process: u32) -> Stepped
-    requires { ⌜ wellFormed (now table) ≡ Accepted ⌝ }
-    ensures { λ r. ⌜ Gives (stepped (now (table .entry)) (now (state .entry)) (now (roll .entry)) process)
-        r (now (state .exit)) (now (roll .exit)) ⌝ }
-{
-    let asked = sizes_asked(state, roll);
-    match asked {
-        Verdict::Refused(refusal) => Stepped::Refused(refusal),
-        Verdict::Accepted => step_sized(table, state, roll, process),
-    }
+    take_turn(table, head, state, roll, count, process as usize)
 }
 
 // Questions 2 to 12, 26, 21, 20 and 22 to 24, then one step of a process.
@@ -101,11 +117,10 @@ pub fn step(table: &[u8], state: &mut [u32], roll: &mut [u32], process: u32) -> 
     ensures { λ r. ⌜ Gives (stepped (now (table .entry)) (now (state .entry)) (now (roll .entry)) process)
         r (now (state .exit)) (now (roll .exit)) ⌝ }
 {
-    let mut planes = [0u32; PLANE_WORDS];
-    let formed = well_formed(table, &mut planes);
-    match formed {
+    let verdict = asked(table, state, roll, process);
+    match verdict {
         Verdict::Refused(refusal) => Stepped::Refused(refusal),
-        Verdict::Accepted => step_formed(table, state, roll, process),
+        Verdict::Accepted => step_asked(table, state, roll, process),
     }
 }
 

@@ -140,7 +140,7 @@ fn meet(
 }
 
 // "A turn takes the top statement."
-fn run(
+pub fn run(
     table: &[u8],
     header: Header,
     state: &mut [u32],

@@ -92,16 +92,17 @@ pub fn write(roll: &mut [u32], p: usize, arrival: Arrival)
     roll[at + 3] = arrival.source;
 }
 
+// From the last down: in a round it is the last that still run.
 fn none_runs(roll: &[u32], count: usize) -> bool
     requires { ⌜ length (now roll) ≡ arrivalSize * count ⌝ }
     ensures { λ r. ⌜ r ≡ allBelow (λ p. not (eqb (statusAt (now (roll .entry)) p) running)) count ⌝ }
 {
-    let mut p = 0;
-    while p < count {
+    let mut p = count;
+    while 0 < p {
+        p -= 1;
         if status_at(roll, p) == 0 {
             return false;
         }
-        p += 1;
     }
     true
 }
@@ -134,20 +135,21 @@ pub fn team_status(roll: &[u32], count: usize) -> TeamStatus
     }
 }
 
+// From the last down, as `none_runs`.
 pub fn all_at_one_node(roll: &[u32], count: usize) -> bool
     requires { ⌜ (length (now roll) ≡ arrivalSize * count) × (1 ≤ count) ⌝ }
     ensures { λ r. ⌜ r ≡ allAtOneNode (now (roll .entry)) count ⌝ }
 {
     let node = node_of(roll, 0);
-    let mut p = 0;
-    while p < count {
+    let mut p = count;
+    while 0 < p {
+        p -= 1;
         if status_at(roll, p) != 1 {
             return false;
         }
         if node_of(roll, p) != node {
             return false;
         }
-        p += 1;
     }
     true
 }

@@ -15,7 +15,7 @@ use crate::arrivals::read;
 use crate::arrivals::source_of;
 use crate::arrivals::value_of;
 use crate::arrivals::write;
-use process::evaluation::evaluate;
+use process::evaluation::value_at;
 use process::process::pop;
 use process::process::process_at;
 use process::process::top;
@@ -46,11 +46,11 @@ pub fn arrival_of(
         return arrival.arrive(n, 0, 0);
     }
     if kind == 25 {
-        let value = evaluate(table, header, words, own, count, node.a as usize);
+        let value = value_at(table, header, words, own, count, node.a as usize);
         return arrival.arrive(n, value, 0);
     }
-    let value = evaluate(table, header, words, own, count, node.b as usize);
-    let source = evaluate(table, header, words, own, count, node.c as usize);
+    let value = value_at(table, header, words, own, count, node.b as usize);
+    let source = value_at(table, header, words, own, count, node.c as usize);
     arrival.arrive(n, value, source)
 }
 

@@ -1,14 +1,13 @@
 // The value of an expression: "worked out by recursion from its node down to its parts".
-ghost use mathlib.Core.Bool.{true, cond};
+ghost use mathlib.Core.Bool.{cond};
 ghost use mathlib.Core.Path.{_≡_};
 ghost use Prim.Native.Nat.{ℕ, _+_, _*_, _/_, _%_, _<_, _≤_};
 ghost use lib.Dec.{ltb};
 ghost use lib.ListN.{length, getD};
 ghost use Rattle.rules.specs.Evaluation.{applied, valueOf, value, doors};
 ghost use Rattle.rules.specs.Process.{mostProcesses, gatheredAt, doorsAt, processWords, environment};
-ghost use Rattle.rules.specs.Table.{Operator, nodes, expressionOf};
-ghost use Rattle.rules.specs.WellFormed.{isExpression};
-ghost use Rattle.process.specs.Given.{Given, operatorOf};
+ghost use Rattle.rules.specs.Table.{Operator, expressionOf};
+ghost use Rattle.process.specs.Given.{Given, Part, operatorOf};
 use rules::Node;
 use rules::layout::DOOR_PLACES;
 use rules::layout::DOORS_AT;
@@ -109,10 +108,10 @@ fn slot(words: &[u32], count: u32, x: u32) -> u32
     }
 }
 
-// Calls itself on the parts, which lie below the node: the node number falls.
+// Calls itself, through `value_at`, on the parts, which lie below the node: the node number falls.
 pub fn evaluate(table: &[u8], header: Header, words: &[u32], own: u32, count: u32, n: usize) -> u32
     requires { ⌜ Given (now table) header (now words) count ⌝ }
-    requires { ⌜ (n < nodes (now table)) × (isExpression (now table) n ≡ true) ⌝ }
+    requires { ⌜ Part (now table) n ⌝ }
     ensures { λ r. ⌜ r ≡ value (now (table .entry)) (environment (now (words .entry)) own count) n ⌝ }
 {
     let node = node_at(table, header, n);
@@ -120,13 +119,27 @@ pub fn evaluate(table: &[u8], header: Header, words: &[u32], own: u32, count: u3
     if kind < 4 {
         return leaf(node, words, own, count);
     }
-    let x = evaluate(table, header, words, own, count, node.a as usize);
+    let x = value_at(table, header, words, own, count, node.a as usize);
     if kind == 4 {
         return door(words, x);
     }
     if kind == 5 {
         return slot(words, count, x);
     }
-    let y = evaluate(table, header, words, own, count, node.b as usize);
+    let y = value_at(table, header, words, own, count, node.b as usize);
     apply(kind, x, y)
+}
+
+// The same, and short enough to stand in its callers: most parts are leaves, and a call would cost more than they do.
+pub fn value_at(table: &[u8], header: Header, words: &[u32], own: u32, count: u32, n: usize) -> u32
+    requires { ⌜ Given (now table) header (now words) count ⌝ }
+    requires { ⌜ Part (now table) n ⌝ }
+    ensures { λ r. ⌜ r ≡ value (now (table .entry)) (environment (now (words .entry)) own count) n ⌝ }
+{
+    let node = node_at(table, header, n);
+    let kind = node.kind;
+    if kind < 4 {
+        return leaf(node, words, own, count);
+    }
+    evaluate(table, header, words, own, count, n)
 }

@@ -11,7 +11,7 @@ ghost use Rattle.rules.specs.Process.{processAt, environment, depth, top, poppe
 ghost use Rattle.rules.specs.Table.{Statement, nodes, body, statementAt};
 ghost use Rattle.rules.specs.WellFormed.{nearestLoop};
 ghost use Rattle.process.specs.Given.{Read, Given, Stacked, Part, isCollective, Turn};
-use crate::evaluation::evaluate;
+use crate::evaluation::value_at;
 use loops::nearest_loop;
 use rules::Node;
 use rules::layout::DEPTH_AT;
@@ -75,7 +75,7 @@ fn assign(table: &[u8], header: Header, words: &mut [u32], own: u32, count: u32,
         ≡ advanced (now (table .entry)) (environment (now (words .entry)) own count) (now (words .entry))
         (Statement.assign a b) ⌝ }
 {
-    let value = evaluate(table, header, words, own, count, b);
+    let value = value_at(table, header, words, own, count, b);
     words[a] = value;
     pop(words);
 }
@@ -94,7 +94,7 @@ fn branch(table: &[u8], header: Header, words: &mut [u32], own: u32, count: u32,
         ≡ advanced (now (table .entry)) (environment (now (words .entry)) own count) (now (words .entry))
         (Statement.branch (node .a) (node .b) (node .c)) ⌝ }
 {
-    let test = evaluate(table, header, words, own, count, node.a as usize);
+    let test = value_at(table, header, words, own, count, node.a as usize);
     if test == 0 {
         replace(words, node.c);
     } else {
@@ -110,7 +110,7 @@ fn repeat(table: &[u8], header: Header, words: &mut [u32], own: u32, count: u32,
         ≡ advanced (now (table .entry)) (environment (now (words .entry)) own count) (now (words .entry))
         (Statement.loop (node .a) (node .b)) ⌝ }
 {
-    let test = evaluate(table, header, words, own, count, node.a as usize);
+    let test = value_at(table, header, words, own, count, node.a as usize);
     if test == 0 {
         pop(words);
     } else {
@@ -146,8 +146,8 @@ fn latch(table: &[u8], header: Header, words: &mut [u32], own: u32, count: u32, 
         ≡ advanced (now (table .entry)) (environment (now (words .entry)) own count) (now (words .entry))
         (Statement.latch a b) ⌝ }
 {
-    let place = evaluate(table, header, words, own, count, a);
-    let value = evaluate(table, header, words, own, count, b);
+    let place = value_at(table, header, words, own, count, a);
+    let value = value_at(table, header, words, own, count, b);
     write_latch(words, place, value);
     pop(words);
 }

@@ -23,20 +23,20 @@ use Rattle.questions.proofs.QuestionLaws.{record-empty, top-fits}
 
 -- one process that question 23 holds of
 module _ (table state roll : List ℕ) (q : ℕ) (fits : processFits table state roll q ≡ true) where
-  bounded : depth (processAt state q) ≤ stackPlaces
+  pub bounded : depth (processAt state q) ≤ stackPlaces
   unfolding processFits
   bounded =
       leb-true _ stackPlaces
       (both-left (leb (depth (processAt state q)) stackPlaces) _
       (both-left _ (recordFits table (processAt state q) roll q) fits))
 
-  stack-fit : stackFits table (processAt state q) ≡ true
+  pub stack-fit : stackFits table (processAt state q) ≡ true
   unfolding processFits
   stack-fit =
       both-right (leb (depth (processAt state q)) stackPlaces) _
       (both-left _ (recordFits table (processAt state q) roll q) fits)
 
-  record-fit : recordFits table (processAt state q) roll q ≡ true
+  pub record-fit : recordFits table (processAt state q) roll q ≡ true
   unfolding processFits
   record-fit = both-right (leb (depth (processAt state q)) stackPlaces && stackFits table (processAt state q)) _ fits
 

@@ -8,7 +8,7 @@ ghost use Rattle.rules.specs.Arrivals.{arrivalSize};
 ghost use Rattle.rules.specs.Choice.{firstFailing, allBelow};
 ghost use Rattle.rules.specs.Process.{stackAt, stackPlaces, processWords, depth, top};
 ghost use Rattle.rules.specs.Step.{stackFits, fieldsZero, lackedZero, waitFits, leaveFits, recordFits, processFits};
-ghost use Rattle.rules.specs.Table.{statementOf, onCollective};
+ghost use Rattle.rules.specs.Table.{statementOf, statementAt, onCollective, isLeave};
 ghost use Rattle.rules.specs.WellFormed.{isStatement};
 ghost use Rattle.process.specs.Given.{Read, Stacked};
 ghost use Rattle.questions.specs.Asked.{wordsFit};
@@ -135,16 +135,23 @@ fn lies_below(words: &[u32], w: usize) -> bool
     false
 }
 
+pub fn leave_on_top(table: &[u8], header: Header, words: &[u32]) -> bool
+    requires { ⌜ Read (now table) header × Stacked (now words) × (isStatement (now table) (top (now words)) ≡ true) ⌝ }
+    ensures { λ r. ⌜ r ≡ isLeave (statementAt (now (table .entry)) (top (now (words .entry)))) ⌝ }
+{
+    let n = top(words) as usize;
+    kind_at(table, header, n) == 26
+}
+
 // "A made-up stack with a leave on top and that while not below is number 23."
-fn leave_fits(table: &[u8], header: Header, words: &[u32]) -> bool
+pub fn leave_fits(table: &[u8], header: Header, words: &[u32]) -> bool
     requires { ⌜ Read (now table) header × Stacked (now words) × (isStatement (now table) (top (now words)) ≡ true) ⌝ }
     ensures { λ r. ⌜ r ≡ leaveFits (now (table .entry)) (now (words .entry)) ⌝ }
 {
-    let n = top(words) as usize;
-    if kind_at(table, header, n) != 26 {
+    if !leave_on_top(table, header, words) {
         return true;
     }
-    lies_below(words, nearest_loop(table, header, n))
+    lies_below(words, nearest_loop(table, header, top(words) as usize))
 }
 
 fn record_fits(table: &[u8], header: Header, words: &[u32], roll: &[u32], p: usize) -> bool
@@ -190,13 +197,7 @@ fn words_fit(table: &[u8], header: Header, words: &[u32], roll: &[u32], p: usize
 }
 
 // "for 23 and 24 the first bank failing"
-pub(crate) fn first_unfit(
-    table: &[u8],
-    header: Header,
-    state: &[u32],
-    roll: &[u32],
-    count: usize,
-) -> usize
+pub fn first_unfit(table: &[u8], header: Header, state: &[u32], roll: &[u32], count: usize) -> usize
     requires { ⌜ Read (now table) header × (length (now state) ≡ processWords * count) × (length (now roll) ≡ arrivalSize * count) ⌝ }
     ensures { λ r. ⌜ r ≡ firstFailing (processFits (now (table .entry)) (now (state .entry)) (now (roll .entry))) count ⌝ }
 {

@@ -6,7 +6,7 @@ ghost use Rattle.rules.specs.declared.Verdict.the-variants.{Accepted};
 ghost use Rattle.rules.specs.Answers.{_then_};
 ghost use Rattle.rules.specs.Process.{environment, top, needsPlace};
 ghost use Rattle.rules.specs.Start.{question18, question19, question20, question21};
-ghost use Rattle.rules.specs.Step.{processesIn, processFits, placeLacked, question22, question23, question24};
+ghost use Rattle.rules.specs.Step.{processesIn, processFits, placeLacked, question22, question23};
 ghost use Rattle.rules.specs.Table.{statementAt};
 ghost use Rattle.rules.specs.WellFormed.{wellFormed};
 ghost use Rattle.process.specs.Given.{Topped};
@@ -110,8 +110,8 @@ fn needs_place(
     false
 }
 
-// "Has the bank a free stack place if one is needed?"
-fn place_lacked(
+// 24: "Has the bank a free stack place if one is needed?"
+pub fn place_lacked(
     table: &[u8],
     header: Header,
     state: &[u32],
@@ -134,8 +134,8 @@ fn place_lacked(
     needs_place(table, header, words, p as u32, count, node)
 }
 
-// Questions 22 to 24 of a step.
-pub fn process_asked(
+// Questions 22 and 23 of a step.
+pub fn team_asked(
     table: &[u8],
     header: Header,
     state: &[u32],
@@ -145,8 +145,7 @@ pub fn process_asked(
 ) -> Verdict
     requires { ⌜ Team (now table) header (now state) (now roll) count ⌝ }
     ensures { λ r. ⌜ r ≡ (question22 count process
-        then question23 (now (table .entry)) (now (state .entry)) (now (roll .entry)) count
-        then question24 (now (table .entry)) (now (state .entry)) (now (roll .entry)) count process) ⌝ }
+        then question23 (now (table .entry)) (now (state .entry)) (now (roll .entry)) count) ⌝ }
 {
     if process >= count {
         return refused(22, process);
@@ -157,9 +156,6 @@ pub fn process_asked(
     }
     if all_at_one_node(roll, count as usize) {
         return refused(23, 0);
-    }
-    if place_lacked(table, header, state, roll, count, process as usize) {
-        return refused(24, process);
     }
     Verdict::Accepted
 }

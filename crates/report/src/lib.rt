@@ -1,4 +1,4 @@
-// What the two programs print: the paper's words, on standard output.
+// What the three programs print: the paper's words, on standard output.
 ghost use mathlib.Core.Path.{_≡_};
 ghost use Prim.Native.Nat.{_≤_};
 ghost use lib.ListN.{take};
@@ -31,6 +31,14 @@ pub fn refusal(r: Refusal) {
     text(b" ");
     number(r.place);
     text(b"\n");
+}
+
+// 25: "is its input at most 32,768 bytes, with .. all there?"
+pub fn input_refused() {
+    refusal(Refusal {
+        number: 25,
+        place: 0,
+    });
 }
 
 // The line above the first turn.
@@ -93,6 +101,18 @@ pub fn turn(bank: u32, answer: Answer) {
     print(&what.0, what.1);
     text(b" ");
     number(event_node(happened));
+    text(b" ");
+    print(&site.0, site.1);
+    text(b"\n");
+}
+
+// How many turns were made, which bank was last, and the site, below a line that names them.
+pub fn served(made: u32, last: u32, team: TeamStatus) {
+    let site = team_word(team);
+    text(b"made last site\n");
+    number(made);
+    text(b" ");
+    number(last);
     text(b" ");
     print(&site.0, site.1);
     text(b"\n");

@@ -10,17 +10,19 @@ use native.Mathlib.Omega.{arith}
 use lib.Dec.{ltb, eqb}
 use lib.ListN.{length, set, take, drop, replicate, length-set, length-append, length-take, length-drop, length-replicate}
 use lib.Seq.{getD-at, getD-append-add}
-use borrow.Author.Tests.{ltb-true, eqb-true, eq-eqb}
+use borrow.Author.Tests.{eqb-true, eq-eqb}
 use Rattle.rules.specs.Collective.{received}
 use Rattle.rules.specs.Evaluation.{Environment, value}
 use Rattle.rules.specs.Process.{variablePlaces, gatheredPlaces, latchPlaces, mostProcesses, latchesAt, depthAt, stackAt, stackPlaces, processWords}
-use Rattle.rules.specs.Process.{processAt, environment, depth, top, popped, replaced, pushed, unwound, advanced, needsPlace}
+use Rattle.rules.specs.Process.{processAt, environment, depth, top, popped, replaced, pushed, advanced, needsPlace}
 use Rattle.rules.specs.Start.{startSize, startProcess}
 use Rattle.rules.specs.Step.{stackFits, leaveFits, placeLacked}
 use Rattle.rules.specs.Table.{variables, procedures, nodes, body, mainBody, statementAt, isLeave}
 use Rattle.rules.specs.Table.{Statement, nothing, assign, sequence, branch, loop, call, latch, collective, leave, Collective}
 use Rattle.rules.specs.WellFormed.{isStatement, openParts, nearestLoop}
 use Rattle.rules.proofs.ChoiceLaws.{bool-cases, all-true, all-false}
+use Rattle.rules.proofs.EntryLaws.{Each, each-kept, each-popped, each-replaced, each-pushed}
+use Rattle.rules.proofs.EntryLaws.{set-keeps, latch-keeps, unwound-keeps}
 use Rattle.rules.proofs.Formed.{Formed, Enclosed}
 use Rattle.rules.proofs.HomeLaws.{Home, calls-body, sequence-homes, branch-homes, loop-home, call-home}
 use Rattle.rules.proofs.HomeLaws.{sequence-place, loop-place, assign-low, call-below}
@@ -28,9 +30,9 @@ use Rattle.rules.proofs.LoopLaws.{OpenPart, nearest-part, nearest-body,
 use Rattle.rules.proofs.LoopLaws.{Within, Inside, inside-near, inside-same}
 use Rattle.rules.proofs.SizeLaws.{room, room-suc, room-all}
 use Rattle.rules.proofs.StackLaws.{entry, popped-depth, popped-entry, replaced-depth, replaced-entry, replaced-top}
-use Rattle.rules.proofs.StackLaws.{pushed-depth, pushed-entry, pushed-top, top-entry, set-depth, set-entry}
+use Rattle.rules.proofs.StackLaws.{pushed-depth, pushed-entry, pushed-top, top-entry}
 use Rattle.rules.proofs.StackLaws.{StoresLow, received-depth, received-entry, received-length, replaced-length}
-use Rattle.rules.proofs.StackLaws.{latched-length, popped-length, stackOf, stack, stackOf-kept, stack-top, stack-replaced}
+use Rattle.rules.proofs.StackLaws.{latched-length, stackOf, stack, stackOf-kept, stack-top, stack-replaced}
 
 -- a stack of nodes at home, each inside its nearest while
 pub record Placed (table words : List ℕ) : Type 0 where
@@ -38,14 +40,18 @@ pub record Placed (table words : List ℕ) : Type 0 where
   pub homes : (i : ℕ) → i < depth words → Home table (entry words i) i
   pub inside : (i : ℕ) → i < depth words → Inside table (entry words i) (stackOf words i)
 
+homes-of : (table words : List ℕ) → Placed table words → Each (Home table) words
+homes-of table words placed = record { depth-high = placed .depth-high; entries = placed .homes }
+
 -- the stack's moves
 
 placed-kept : (table words others : List ℕ) → depth others ≡ depth words
     → ((i : ℕ) → entry others i ≡ entry words i) → Placed table words → Placed table others
 placed-kept table words others e same placed =
+    let home = each-kept (Home table) words others e same (homes-of table words placed) in
     record {
-      depth-high = rw e (placed .depth-high);
-      homes = λ i l. rw (same i) (placed .homes i (omega arith));
+      depth-high = home .depth-high;
+      homes = home .entries;
       inside = λ i l.
           inside-same table (entry others i) (entry words i) (stackOf others i) (stackOf words i) (same i)
           (stackOf-kept others words i (λ j m. same j)) (placed .inside i (omega arith));
@@ -55,10 +61,10 @@ module _ (table words : List ℕ) (sized : length words ≡ processWords) (place
   placed-popped : Placed table (popped words)
   placed-popped =
       let e = popped-depth words sized in
-      let high = placed .depth-high in
+      let home = each-popped (Home table) words sized (homes-of table words placed) in
       record {
-        depth-high = omega arith;
-        homes = λ i l. rw (popped-entry words sized i (omega arith)) (placed .homes i (omega arith));
+        depth-high = home .depth-high;
+        homes = home .entries;
         inside = λ i l.
             inside-same table (entry (popped words) i) (entry words i) (stackOf (popped words) i) (stackOf words i)
             (popped-entry words sized i (omega arith))
@@ -68,18 +74,13 @@ module _ (table words : List ℕ) (sized : length words ≡ processWords) (place
 
   placed-replaced : (n : ℕ) → 0 < depth words → Home table n (depth words - 1)
       → Inside table n (stackOf words (depth words - 1)) → Placed table (replaced words n)
-  placed-replaced n h home within =
+  placed-replaced n h new within =
       let e = replaced-depth words sized n h in
       let high = placed .depth-high in
+      let home = each-replaced (Home table) words sized (homes-of table words placed) n h new in
       record {
-        depth-high = omega arith;
-        homes = λ i l.
-            elim (decLt i (depth words - 1)) [
-              | yes m ↦ rw (replaced-entry words sized n i m) (placed .homes i (omega arith))
-              | no m ↦
-                  let here : i ≡ depth words - 1 = omega arith in
-                  rw (here, replaced-top words sized n h high) home
-            ];
+        depth-high = home .depth-high;
+        homes = home .entries;
         inside = λ i l.
             let below : stackOf (replaced words n) i ≡ stackOf words i =
             stackOf-kept (replaced words n) words i (λ j m. replaced-entry words sized n j (omega arith)) in
@@ -97,17 +98,12 @@ module _ (table words : List ℕ) (sized : length words ≡ processWords) (place
 
   placed-pushed : (n : ℕ) → depth words < stackPlaces → Home table n (depth words) → Inside table n (stack words)
       → Placed table (pushed words n)
-  placed-pushed n h home within =
+  placed-pushed n h new within =
       let e = pushed-depth words sized n in
+      let home = each-pushed (Home table) words sized (homes-of table words placed) n h new in
       record {
-        depth-high = omega arith;
-        homes = λ i l.
-            elim (decLt i (depth words)) [
-              | yes m ↦ rw (pushed-entry words sized n i m) (placed .homes i m)
-              | no m ↦
-                  let here : i ≡ depth words = omega arith in
-                  rw (here, pushed-top words sized n h) home
-            ];
+        depth-high = home .depth-high;
+        homes = home .entries;
         inside = λ i l.
             let below : stackOf (pushed words n) i ≡ stackOf words i =
             stackOf-kept (pushed words n) words i (λ j m. pushed-entry words sized n j (omega arith)) in
@@ -122,38 +118,11 @@ module _ (table words : List ℕ) (sized : length words ≡ processWords) (place
             ];
       }
 
--- entries go one by one
-placed-unwound : (table : List ℕ) (w d : ℕ) (words : List ℕ) → length words ≡ processWords → Placed table words
-    → Placed table (unwound w d words)
-unfolding unwound
-placed-unwound table w zero words sized placed = placed
-placed-unwound table w (suc d) words sized placed =
-    let once = placed-popped table words sized placed in
-    picked (eqb (top words) w) once (placed-unwound table w d (popped words) (popped-length words ∙ sized) once)
-  where
-    picked : (test : Bool) → Placed table (popped words) → Placed table (unwound w d (popped words))
-        → Placed table (cond test (popped words) (unwound w d (popped words)))
-    picked true f g = f
-    picked false f g = g
-
 -- what question 23 asks of the stack
 pub placed-fits : (table words : List ℕ) → Placed table words → stackFits table words ≡ true
 unfolding stackFits
 placed-fits table words placed =
     all-true (λ i. isStatement table (entry words i)) (depth words) (λ i l. placed .homes i l .statement)
-
--- a store below the depth
-placed-set : (table words : List ℕ) (a v : ℕ) → a < depthAt → Placed table words → Placed table (set words a v)
-placed-set table words a v h placed =
-    placed-kept table words (set words a v) (set-depth words a v h) (λ i. set-entry words a v i h) placed
-
-placed-latched : (table words : List ℕ) (x v : ℕ) → Placed table words
-    → Placed table (cond (ltb x latchPlaces) (set words (latchesAt + x) v) words)
-placed-latched table words x v placed =
-    ⊎-elim
-    (λ (e : ltb x latchPlaces ≡ true). rw e (placed-set table words (latchesAt + x) v (omega (arith, ltb-true x latchPlaces e)) placed))
-    (λ (e : ltb x latchPlaces ≡ false). rw e placed)
-    (bool-cases (ltb x latchPlaces))
 
 -- a process takes away what a collective gives, and its top goes
 pub placed-received : (table roll : List ℕ) (count : ℕ) (k : Collective) (p : ℕ) (words : List ℕ)
@@ -254,7 +223,7 @@ module _ (table : List ℕ) (f : Formed table) (words : List ℕ) (sized : lengt
     advanced-by (assign a b) e =
         let v = value table env b in
         placed-popped table (set words a v) (length-set words a v ∙ sized)
-        (placed-set table words a v (assign-low table f (top words) a b e) placed)
+        (set-keeps (Placed table) (placed-kept table) (placed-popped table) words a v (assign-low table f (top words) a b e) placed)
     advanced-by (sequence a b) e = placed-sequence a b e
     advanced-by (branch a b c) e = placed-branch a b c (eqb (value table env a) 0) e
     advanced-by (loop a b) e = placed-loop a b (eqb (value table env a) 0) e
@@ -266,9 +235,12 @@ module _ (table : List ℕ) (f : Formed table) (words : List ℕ) (sized : lengt
         let x = value table env a in
         let v = value table env b in
         placed-popped table (cond (ltb x latchPlaces) (set words (latchesAt + x) v) words)
-        (latched-length words (ltb x latchPlaces) (latchesAt + x) v ∙ sized) (placed-latched table words x v placed)
+        (latched-length words (ltb x latchPlaces) (latchesAt + x) v ∙ sized)
+        (latch-keeps (Placed table) (placed-kept table) (placed-popped table) words x v placed)
     advanced-by (collective k) e = placed
-    advanced-by leave e = placed-unwound table (nearestLoop table (top words)) (depth words) words sized placed
+    advanced-by leave e =
+        unwound-keeps (Placed table) (placed-kept table) (placed-popped table) (nearestLoop table (top words)) (depth words)
+        words sized placed
 
     -- a step of a statement that is no collective keeps the homes; a collective is left where it is
     pub placed-advanced : Placed table (advanced table env words (statementAt table (top words)))

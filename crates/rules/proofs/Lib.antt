@@ -12,6 +12,7 @@ pub mod LoopLaws
 pub mod LeaveLaws
 pub mod StackLaws
 pub mod HomeLaws
+pub mod EntryLaws
 pub mod DepthLaws
 pub mod ProcessLaws
 pub mod CollectiveLaws
@@ -30,6 +31,9 @@ pub mod Meeting
 pub mod TurnCases
 pub mod BufferedLaws
 pub mod SoundRun
+pub mod ServingLaws
+pub mod FairLaws
 pub mod Together
 pub mod TogetherStep
 pub mod Agreement
+pub mod ServedRun

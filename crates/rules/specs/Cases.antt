@@ -1,5 +1,5 @@
--- The cases that the paper marks to be proved of the rules, and a few of leaves and of absent senders, one table of theorems,
--- each by computation from the table's words.
+-- The cases that the paper marks to be proved of the rules, and a few of leaves, of absent senders and of turns shared, one table
+-- of theorems, each by computation from the table's words.
 use mathlib.Core.List.{List, [], _∷_, _++_}
 use mathlib.Core.Path.{_≡_, refl}
 use Prim.Native.Nat.{ℕ, zero, suc, _+_, _-_, _*_, _/_, _%_, _^_}
@@ -27,6 +27,8 @@ use Rattle.rules.specs.Process
 use Rattle.rules.specs.Process.{depthAt, stackAt, stackPlaces, processWords, processAt}
 use Rattle.rules.specs.Run
 use Rattle.rules.specs.Run.{Team, answers, afterTurns, startTeam}
+use Rattle.rules.specs.Scheduling
+use Rattle.rules.specs.Scheduling.{served, chosenIn}
 use Rattle.rules.specs.Start
 use Rattle.rules.specs.Step
 use Rattle.rules.specs.Step.{stepVerdict, stepped}
@@ -55,7 +57,7 @@ answer event team = Taken (record { event = event; team = team })
 
 -- opens every definition of the rules, so that a case computes
 opened : ℕ
-unfolding bytes verdict startOn run answer Choice.firstFailing Choice.allBelow Below.below Below.atNode Table.wordAt Table.edition Table.variables Table.procedures Table.nodes Table.flagged Table.procedureWord Table.body Table.effectFlag Table.mainBody Table.unpacked Table.nodeAt Table.expressionOf Table.statementOf Table.expressionAt Table.statementAt WellFormed.headerFits WellFormed.procedureFits WellFormed.isExpression WellFormed.isStatement WellFormed.kindKnown WellFormed.namedFields WellFormed.unnamedZero WellFormed.expressionPart WellFormed.statementPart WellFormed.expressionFits WellFormed.collectiveFits WellFormed.statementFits WellFormed.nodeFits WellFormed.expressionParts WellFormed.collectiveParts WellFormed.statementParts WellFormed.partsAt WellFormed.joined WellFormed.uses WellFormed.occurrences WellFormed.usedOnce WellFormed.someOf WellFormed.inTree WellFormed.calledBelow WellFormed.openParts WellFormed.openly WellFormed.loopAround WellFormed.nearestLoop WellFormed.leaveEnclosed WellFormed.wellBuilt WellFormed.wellFormed Judgement.singleOf Judgement.single Judgement.effectOf Judgement.effect Judgement.holdsLeave Judgement.localIf Judgement.leftLocally Acceptance.ruleOf Acceptance.bodyFlagged Acceptance.judged Acceptance.checked Acceptance.checkedScratch Evaluation.applied Evaluation.valueOf Evaluation.value Process.processAt Process.withProcess Process.eachProcess Process.depth Process.top Process.popped Process.replaced Process.pushed Process.unwound Process.advanced Process.needsPlace Arrivals.statusAt Arrivals.arrivalNode Arrivals.arrivalValue Arrivals.arrivalSource Arrivals.withArrival Arrivals.eachArrival Arrivals.teamStatus Arrivals.allAtOneNode Collective.arrivalOf Collective.gatheredFrom Collective.received Collective.completedState Collective.releasedRoll Start.startSize Start.startVerdict Start.startWords Start.startProcess Start.startState Start.startRoll Start.startedBy Start.started Start.latchesOf Step.processesIn Step.stackFits Step.fieldsZero Step.lackedZero Step.waitFits Step.leaveFits Step.recordFits Step.processFits Step.placeLacked Step.stepVerdict Step.moved Step.completed Step.arrivedAt Step.stepRunning Step.stepTaken Step.steppedBy Step.stepped Run.afterTurns Run.answers Run.collectives
+unfolding bytes verdict startOn run answer Choice.firstFailing Choice.allBelow Below.below Below.atNode Table.wordAt Table.edition Table.variables Table.procedures Table.nodes Table.flagged Table.procedureWord Table.body Table.effectFlag Table.mainBody Table.unpacked Table.nodeAt Table.expressionOf Table.statementOf Table.expressionAt Table.statementAt WellFormed.headerFits WellFormed.procedureFits WellFormed.isExpression WellFormed.isStatement WellFormed.kindKnown WellFormed.namedFields WellFormed.unnamedZero WellFormed.expressionPart WellFormed.statementPart WellFormed.expressionFits WellFormed.collectiveFits WellFormed.statementFits WellFormed.nodeFits WellFormed.expressionParts WellFormed.collectiveParts WellFormed.statementParts WellFormed.partsAt WellFormed.joined WellFormed.uses WellFormed.occurrences WellFormed.usedOnce WellFormed.someOf WellFormed.inTree WellFormed.calledBelow WellFormed.openParts WellFormed.openly WellFormed.loopAround WellFormed.nearestLoop WellFormed.leaveEnclosed WellFormed.wellBuilt WellFormed.wellFormed Judgement.singleOf Judgement.single Judgement.effectOf Judgement.effect Judgement.holdsLeave Judgement.localIf Judgement.leftLocally Acceptance.ruleOf Acceptance.bodyFlagged Acceptance.judged Acceptance.checked Acceptance.checkedScratch Evaluation.applied Evaluation.valueOf Evaluation.value Process.processAt Process.withProcess Process.eachProcess Process.depth Process.top Process.popped Process.replaced Process.pushed Process.unwound Process.advanced Process.needsPlace Arrivals.statusAt Arrivals.arrivalNode Arrivals.arrivalValue Arrivals.arrivalSource Arrivals.withArrival Arrivals.eachArrival Arrivals.teamStatus Arrivals.allAtOneNode Collective.arrivalOf Collective.gatheredFrom Collective.received Collective.completedState Collective.releasedRoll Start.startSize Start.startVerdict Start.startWords Start.startProcess Start.startState Start.startRoll Start.startedBy Start.started Start.latchesOf Step.processesIn Step.stackFits Step.fieldsZero Step.lackedZero Step.waitFits Step.leaveFits Step.recordFits Step.processFits Step.placeLacked Step.teamVerdict Step.stepVerdict Step.moved Step.completed Step.arrivedAt Step.stepRunning Step.stepTaken Step.steppedBy Step.stepped Run.afterTurns Run.answers Run.collectives Scheduling.passedOver Scheduling.nextProcess Scheduling.serving Scheduling.servedBy Scheduling.served Scheduling.chosen Scheduling.chosenBy Scheduling.chosenIn
 opened = 0
 
 -- T1: if own number then barrier else nothing
@@ -282,3 +284,73 @@ leave-unfounded : stepVerdict (bytes search-loop) (set (searching (0 ∷ 0 ∷ 0
     ≡ refused 23 0
 unfolding opened stocktake search-loop open-door searching
 leave-unfounded = refl
+
+-- turns shared: made, last and answer of a call right after a start on two processes, and the order that it chooses
+
+serve : List ℕ → ℕ → ℕ → ℕ × (ℕ × Verdict)
+serve words last turns =
+    let team = startOn words 2 (zeros 2) in
+    let end = served (bytes words) (team .state) (team .roll) last turns in
+    (end .made, (end .last, end .answer))
+
+order : List ℕ → ℕ → ℕ → List ℕ
+order words last turns = chosenIn (bytes words) (startOn words 2 (zeros 2)) last turns
+
+-- "No turns made: the last bank is the one given."
+serve-none : serve t2 1 0 ≡ (0, (1, Accepted))
+unfolding opened zeros t1 t2 serve
+serve-none = refl
+
+-- "the first running bank after that one, cyclically", "until the turns are used or no bank runs"
+serve-one : serve t2 0 1 ≡ (1, (1, Accepted))
+unfolding opened zeros t1 t2 serve
+serve-one = refl
+
+serve-many : serve t2 0 9 ≡ (4, (0, Accepted))
+unfolding opened zeros t1 t2 serve
+serve-many = refl
+
+serve-order : order t2 1 9 ≡ 0 ∷ 1 ∷ 0 ∷ 1 ∷ []
+unfolding opened zeros t1 t2 order
+serve-order = refl
+
+-- if own number then barrier else a sequence of nothing and nothing: process 1 waits, and is passed over, while 0 goes on
+two-speeds : List ℕ
+two-speeds =
+    0x10420600 ∷ 0 ∷ 0x05800000
+    ∷ 0x10000000 ∷ 0xB8000000 ∷ 0x80000000 ∷ 0x80000000 ∷ 0x90080600 ∷ 0x98000204 ∷ []
+
+serve-passes : order two-speeds 1 9 ≡ 0 ∷ 1 ∷ 0 ∷ 1 ∷ 0 ∷ 0 ∷ []
+unfolding opened zeros two-speeds order
+serve-passes = refl
+
+-- "A last bank that the roll lacks gets number 22, in its usual place", also when no turn is made
+serve-lacking : serve t2 2 0 ≡ (0, (2, refused 22 2))
+unfolding opened zeros t1 t2 serve
+serve-lacking = refl
+
+-- "the turns made stand, and the answer adds that refusal": of made-up states of search-loop, process 0 first
+
+serve-made-up : ℕ → List ℕ → ℕ × (ℕ × Verdict)
+serve-made-up count state =
+    let end = served (bytes search-loop) state (replicate (arrivalSize * count) 0) (count - 1) 9 in
+    (end .made, (end .last, end .answer))
+
+-- a process with so deep a stack, its lowest entries as given and the others the while, 8
+standing : ℕ → List ℕ → List ℕ
+standing deep entries = replicate depthAt 0 ++ deep ∷ take stackPlaces (entries ++ replicate stackPlaces 8)
+
+-- a leave that a pop uncovers, with no while below it
+serve-uncovered : serve-made-up 1 (standing 2 (3 ∷ 4 ∷ [])) ≡ (1, (0, refused 23 0))
+unfolding opened stocktake search-loop serve-made-up standing
+serve-uncovered = refl
+
+-- process 1 has a full stack with a while on it; process 0, served before it, has ended
+serve-full : serve-made-up 2 (standing 1 (4 ∷ []) ++ standing stackPlaces []) ≡ (1, (0, refused 24 1))
+unfolding opened stocktake search-loop serve-made-up standing
+serve-full = refl
+
+-- "the first included"
+serve-full-first : serve-made-up 1 (standing stackPlaces []) ≡ (0, (0, refused 24 0))
+unfolding opened stocktake search-loop serve-made-up standing
+serve-full-first = refl

@@ -15,5 +15,6 @@ pub mod Collective
 pub mod Start
 pub mod Step
 pub mod Run
+pub mod Scheduling
 pub mod Buffered
 pub mod Cases

@@ -5,52 +5,21 @@ ghost use Prim.Native.Nat.{_+_, _*_, _≤_};
 ghost use lib.ListN.{length};
 ghost use Rattle.rules.specs.Evaluation.{doors};
 ghost use Rattle.rules.specs.Process.{variablePlaces, processWords, mostProcesses};
+use input::INPUT_BYTES;
+use input::lesser;
+use input::read_words;
+use input::start_words;
+use input::table_end;
 use libc::STDIN_FILENO;
 use rules::Arrival;
-use rules::Refusal;
 use rules::Status;
 use rules::Stepped;
 use rules::Verdict;
-use rules::layout::DOOR_PLACES;
 use rules::layout::MOST_PROCESSES;
 use rules::layout::PROCESS_WORDS;
 use rules::layout::START_WORDS;
 use rules::layout::STATE_WORDS;
-use table::words::header;
 use table::words::word;
-
-// A byte more than question 25 allows, so that longer input shows.
-const INPUT_BYTES: usize = 32769;
-
-fn lesser(a: usize, b: usize) -> usize
-    ensures { λ r. ⌜ r ≤ a ⌝ }
-    ensures { λ r. ⌜ r ≤ b ⌝ }
-{
-    if a < b { a } else { b }
-}
-
-// The start words of so many processes, where the table and their number allow a start. Where they do not, the start is
-// refused before its words are counted.
-fn start_words(table: &[u8], processes: usize) -> usize
-    requires { ⌜ processes ≤ mostProcesses ⌝ }
-    ensures { λ r. ⌜ r ≤ (variablePlaces + doors) * mostProcesses ⌝ }
-{
-    if table.len() < 4 {
-        return 0;
-    }
-    let each = header(table).variables % 64 + DOOR_PLACES;
-    lesser(each * processes, START_WORDS)
-}
-
-// The first words of some bytes.
-fn read_words(bytes: &[u8], words: &mut [u32])
-    requires { ⌜ 4 * length (now words) ≤ length (now bytes) ⌝ }
-{
-    let count = words.len();
-    for i in 0..count {
-        words[i] = word(bytes, i);
-    }
-}
 
 // Answers whether the run goes on.
 fn report_step(bank: u32, stepped: Stepped) -> bool {
@@ -135,30 +104,21 @@ fn run_table(table: &[u8], processes: u32, given: &[u8]) {
     run_lent(table, processes, given, &mut words, &mut state);
 }
 
-fn refuse_input() {
-    report::refusal(Refusal {
-        number: 25,
-        place: 0,
-    });
+// An input whose table's bytes end there.
+fn run_parts(input: &[u8], end: usize)
+    requires { ⌜ (4 ≤ end) × (end + 4 ≤ length (now input)) ⌝ }
+{
+    let given_at = end + 4;
+    let processes = word(&input[end..given_at], 0);
+    run_table(&input[4..end], processes, &input[given_at..]);
 }
 
-// 25: "is its input at most 32,768 bytes, with L, the L table bytes and the number of banks all there?"
 fn run(input: &[u8]) {
-    let length = input.len();
-    if length >= INPUT_BYTES {
-        return refuse_input();
+    let end = table_end(input, 4);
+    if end == 0 {
+        return report::input_refused();
     }
-    if length < 8 {
-        return refuse_input();
-    }
-    let size = word(input, 0) as usize;
-    if length - 8 < size {
-        return refuse_input();
-    }
-    let table_end = 4 + size;
-    let given_at = 8 + size;
-    let processes = word(&input[table_end..given_at], 0);
-    run_table(&input[4..table_end], processes, &input[given_at..]);
+    run_parts(input, end);
 }
 
 fn main() {

@@ -17,7 +17,7 @@ use Rattle.rules.specs.Evaluation.{Environment}
 use Rattle.rules.specs.Process.{mostProcesses, environment, processAt, depth, top, advanced}
 use Rattle.rules.proofs.ChoiceLaws.{bool-cases}
 use Rattle.rules.specs.Start.{question18, question19, question20, startVerdict, startRoll, startedBy, started}
-use Rattle.rules.specs.Step.{Outcome, processesIn, question22, question23, question24, stepVerdict, moved, completed, arrivedAt, stepRunning, stepTaken, steppedBy, stepped}
+use Rattle.rules.specs.Step.{Outcome, processesIn, question22, question23, question24, teamVerdict, stepVerdict, moved, completed, arrivedAt, stepRunning, stepTaken, steppedBy, stepped}
 use Rattle.rules.specs.Table.{Collective, Statement, nothing, assign, sequence, branch, loop, call, latch, collective, leave, statementAt, onCollective}
 use Rattle.rules.specs.WellFormed.{wellFormed}
 use Rattle.team.proofs.Recorded.{Recorded, recorded-with, recorded-each, long-21, then-refused, Call}
@@ -60,11 +60,11 @@ module _ (table state : List ℕ) (p : ℕ) where
       then-refused (wellFormed table) _ last
 
   long-stepped : (roll : List ℕ) → arrivalSize * mostProcesses < length roll → stepped table state roll p ≡ record { answer = NotTaken (long-step .0); state = state; roll = roll }
-  unfolding stepped steppedBy stepVerdict
+  unfolding stepped steppedBy stepVerdict teamVerdict
   long-stepped roll l =
-      ap (λ (v : Verdict). steppedBy (wellFormed table then v then question20 (processesIn roll) state then question22 (processesIn roll) p
-      then question23 table state roll (processesIn roll) then question24 table state roll (processesIn roll) p) table state roll p) (long-21 (processesIn roll) roll l)
-      ∙ ap (λ (v : Verdict). steppedBy v table state roll p) (long-step .1)
+      ap (λ (v : Verdict). steppedBy ((wellFormed table then v then question20 (processesIn roll) state then question22 (processesIn roll) p
+      then question23 table state roll (processesIn roll)) then question24 table state roll (processesIn roll) p) table state roll p) (long-21 (processesIn roll) roll l)
+      ∙ ap (λ (v : Verdict). steppedBy (v then question24 table state roll (processesIn roll) p) table state roll p) (long-step .1)
 
 module _ (n : ℕ) where
   -- an outcome that leaves the words of n records

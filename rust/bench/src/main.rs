@@ -32,16 +32,26 @@ fn main() {
     for round in 0..ROUNDS {
         rows.iter_mut().for_each(|row| row.time(round));
     }
-    let is_refused = |row: &Row| row.library.refused_by.is_some();
-    let (refused, taken): (Vec<Row>, Vec<Row>) = rows.into_iter().partition(is_refused);
-    let accepted = taken
-        .iter()
-        .find(|row| row.library.what == FULL_CHECK)
-        .map(Row::library_time)
-        .expect("the accepted check");
-    print_table(&taken, "ns a table word", Row::time_a_word);
+    let (refused, rows) = parted(rows, |work| work.refused_by.is_some());
+    let (turns, calls) = parted(rows, Work::is_of_turns);
+    let accepted = time_of(&calls, |work| work.what == FULL_CHECK);
+    print_table(&calls, "ns a table word", Row::time_a_word);
+    print_table(&turns, "of steps", |row| {
+        row.library_time() / time_of(&turns, |work| work.is_steps_of(&row.library))
+    });
     print_table(&refused, "of accepted", |row| row.library_time() / accepted);
     print_notes();
+}
+
+/// The rows of such work, and the others.
+fn parted(rows: Vec<Row>, is_such: impl Fn(&Work) -> bool) -> (Vec<Row>, Vec<Row>) {
+    rows.into_iter().partition(|row| is_such(&row.library))
+}
+
+/// The library's time for the first of such work, with which others are compared.
+fn time_of(rows: &[Row], is_such: impl Fn(&Work) -> bool) -> f64 {
+    let row = rows.iter().find(|row| is_such(&row.library));
+    row.map(Row::library_time).expect("a row of such work")
 }
 
 /// The last column is named and worked out as given.
@@ -59,14 +69,19 @@ fn print_table(rows: &[Row], column: &str, value: impl Fn(&Row) -> f64) {
 
 fn print_notes() {
     println!("Medians of {ROUNDS} rounds, library and Rust in turns, every piece of work in each");
-    println!("round. No buffer is cleared first: a check leaves its scratch 0, steps go on from");
     println!(
-        "where the last one left state and roll, a start writes every word. Before a step that"
+        "round. No buffer is cleared first: a check leaves its scratch 0, steps and serves go"
     );
-    println!("completes an exchange both sides put stacks and roll back, which is timed with it.");
-    println!("Answers and words were compared first. A table word's time is that of one call,");
-    println!("shared among the table's words; a whole stocktake has a call for its start and one");
-    println!("for each step.");
+    println!(
+        "on from where the last call left state and roll, a start writes every word. Before a"
+    );
+    println!("step that completes an exchange both sides put stacks and roll back, which is timed");
+    println!("with it. Answers and words were compared first. A table word's time is that of one");
+    println!(
+        "call, shared among the table's words; a whole stocktake has a call for its start and"
+    );
+    println!("one for each step.");
+    println!("Of steps: the library's time, divided by its time for the same turns, a call each.");
     println!("Of accepted: the library's time, divided by its time for `{FULL_CHECK}`.");
 }
 

@@ -4,7 +4,9 @@
 mod machine;
 mod reader;
 mod refusal;
+mod scheduler;
 mod table;
 
 pub use machine::{start, step};
 pub use reader::check;
+pub use scheduler::serve;

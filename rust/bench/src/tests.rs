@@ -1,11 +1,12 @@
 //! The plain Rust answers as the library does, also on tables and states that are not timed.
 
 use crate::refused::{self, Refused};
-use crate::work::{self, LIBRARY, NATIVE};
+use crate::work::{self, Work, LIBRARY, NATIVE};
 use crate::{inputs, native};
-use finchchaise::{Answer, Refusal, DOORS, PROCESS_WORDS, ROLL_WORDS, SCRATCH_WORDS};
+use finchchaise::{Answer, Refusal, Served, DOORS, PROCESS_WORDS, ROLL_WORDS, SCRATCH_WORDS};
 use finchchaise_compare::{damaged, leaving, random_bytes, small_table, stack, table};
 use finchchaise_compare::{MadeUp, Random, Shown, Tally};
+use finchchaise_samples::Builder;
 
 const TABLES: usize = 20_000;
 
@@ -61,6 +62,14 @@ struct Lent {
 }
 
 impl Lent {
+    /// With the process to ask for.
+    fn made_up(table: &Builder, random: &mut Random) -> (Lent, u32) {
+        let MadeUp {
+            state, roll, asked, ..
+        } = MadeUp::new(table, random);
+        (Lent { state, roll }, asked)
+    }
+
     fn step_alike(&mut self, table: &[u8], process: u32) -> Result<Answer, Refusal> {
         let mut expected = self.clone();
         let answer = native::step(table, &mut self.state, &mut self.roll, process);
@@ -68,6 +77,15 @@ impl Lent {
         assert_eq!(answer, finchchaise::step(table, state, roll, process));
         assert_eq!(*self, expected);
         answer
+    }
+
+    fn serve_alike(&mut self, table: &[u8], last: u32, turns: u32) -> Served {
+        let mut expected = self.clone();
+        let served = native::serve(table, &mut self.state, &mut self.roll, last, turns);
+        let Lent { state, roll } = &mut expected;
+        assert_eq!(served, finchchaise::serve(table, state, roll, last, turns));
+        assert_eq!(*self, expected);
+        served
     }
 
     fn start_alike(&mut self, table: &[u8], given: &[u32]) -> Result<(), Refusal> {
@@ -81,21 +99,24 @@ impl Lent {
     }
 }
 
+/// A table, and its bytes, some of which are damaged.
+fn mostly_sound(turn: usize, random: &mut Random) -> (Builder, Vec<u8>) {
+    let built = table(random, turn.is_multiple_of(2));
+    let bytes = match turn % 8 {
+        0 => damaged(&built, random),
+        _ => built.bytes(),
+    };
+    (built, bytes)
+}
+
 #[test]
 fn starts_and_steps_are_answered_alike() {
     let mut random = Random::new(2);
     let (mut starts, mut steps) = (Tally::default(), Tally::default());
     for turn in 0..TABLES {
         let random = &mut random;
-        let built = table(random, turn % 2 == 0);
-        let bytes = match turn % 8 {
-            0 => damaged(&built, random),
-            _ => built.bytes(),
-        };
-        let MadeUp {
-            state, roll, asked, ..
-        } = MadeUp::new(&built, random);
-        let mut lent = Lent { state, roll };
+        let (built, bytes) = mostly_sound(turn, random);
+        let (mut lent, asked) = Lent::made_up(&built, random);
         let stack_before = leaving(&bytes, &lent.state, asked).map(<[u32]>::to_vec);
         let answer = lent.step_alike(&bytes, asked);
         steps.stepped(answer);
@@ -112,6 +133,37 @@ fn starts_and_steps_are_answered_alike() {
     steps.assert_leaves(&leaves.map(|shown| (shown, 100)));
     assert!(starts.taken > TABLES / 4, "{starts}");
     starts.assert_refused([26], 100);
+}
+
+#[test]
+fn serves_are_answered_alike() {
+    let mut random = Random::new(3);
+    let (mut at_once, mut midway) = (Tally::default(), Tally::default());
+    let mut not_by_own_turn = 0;
+    for turn in 0..2 * TABLES {
+        let random = &mut random;
+        let (built, bytes) = mostly_sound(turn, random);
+        let (mut lent, last) = Lent::made_up(&built, random);
+        let turns = random.pick(&[0, 1, 2, 5, 20, 100]);
+        let Served {
+            made,
+            last,
+            refusal,
+        } = lent.serve_alike(&bytes, last, turns);
+        let tally = match made {
+            0 => &mut at_once,
+            _ => &mut midway,
+        };
+        tally.judged(refusal.map_or(Ok(()), Err));
+        if let (1.., Some(Refusal { number: 23, place })) = (made, refusal) {
+            not_by_own_turn += (place != last) as usize;
+        }
+    }
+    assert!(at_once.taken.min(midway.taken) > TABLES / 8, "{at_once}");
+    at_once.assert_refused((20..=24).chain([26]), 100);
+    midway.assert_refused([23, 24], 100);
+    // A collective put a leave on top.
+    assert!(not_by_own_turn >= 10, "{not_by_own_turn} of {midway}");
 }
 
 /// Otherwise the rows would not say what it costs.
@@ -143,6 +195,24 @@ fn timed_work_is_done_alike_and_as_expected() {
             native.once(NATIVE);
             assert!(library.is_as_expected(), "{library:?}");
             assert_eq!(library, native);
+        }
+    }
+}
+
+/// Otherwise a served turn could not be compared with a step.
+#[test]
+fn served_turns_are_those_of_the_steps() {
+    let all = work::all();
+    let is_served = |work: &&Work| work.is_of_turns() && !work.is_steps_of(work);
+    let mut served: Vec<Work> = all.iter().filter(is_served).cloned().collect();
+    assert_eq!(served.len(), 3);
+    for served in &mut served {
+        let steps = all.iter().find(|steps| steps.is_steps_of(served));
+        let mut steps = steps.expect("its steps").clone();
+        for _ in 0..3 {
+            served.once(LIBRARY);
+            steps.once(LIBRARY);
+            assert!(served.stands_as(&steps), "{served:?} {steps:?}");
         }
     }
 }

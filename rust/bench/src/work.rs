@@ -3,7 +3,7 @@
 
 use crate::refused::{self, Refused};
 use crate::{inputs, native};
-use finchchaise::{Answer, Event, Refusal, TeamStatus, MOST_PROCESSES};
+use finchchaise::{Answer, Event, Refusal, Served, TeamStatus, MOST_PROCESSES};
 use finchchaise::{DEPTH_AT, DOORS, PROCESS_WORDS, ROLL_WORDS, SCRATCH_WORDS, STACK, STACK_AT};
 use finchchaise_samples::stocktake;
 
@@ -11,30 +11,37 @@ use finchchaise_samples::stocktake;
 pub const FULL_CHECK: &str = "check, N 256, P 16";
 const STOCKTAKE_VARIABLES: usize = 4;
 const EXCHANGE: u8 = 25;
+const RUNNING: u32 = 0;
 const WAITING: u32 = 1;
+/// Turns that a call serves, and steps that they are compared with.
+const TURNS: u32 = 1_000;
 
 type Check = fn(&[u8], &mut [u32]) -> Result<(), Refusal>;
 type Start = fn(&[u8], u32, &[u32], &mut [u32], &mut [u32]) -> Result<(), Refusal>;
 type Step = fn(&[u8], &mut [u32], &mut [u32], u32) -> Result<Answer, Refusal>;
+type Serve = fn(&[u8], &mut [u32], &mut [u32], u32, u32) -> Served;
 
-/// The three calls, of either side.
+/// The four calls, of either side.
 #[derive(Clone, Copy)]
 pub struct Side {
     check: Check,
     start: Start,
     step: Step,
+    serve: Serve,
 }
 
 pub const LIBRARY: Side = Side {
     check: finchchaise::check,
     start: finchchaise::start,
     step: finchchaise::step,
+    serve: finchchaise::serve,
 };
 
 pub const NATIVE: Side = Side {
     check: native::check,
     start: native::start,
     step: native::step,
+    serve: native::serve,
 };
 
 #[derive(Clone, Copy, Debug, PartialEq)]
@@ -42,12 +49,16 @@ enum Task {
     Check,
     /// The next process's step.
     Step,
-    /// The same process's step each time.
+    /// Process 0's step each time.
     Idle,
     /// The step of the process for which all others wait at an exchange.
     Exchange,
     /// A start and all steps to the end.
     Run,
+    /// Many turns in one call.
+    Serve,
+    /// The same turns, in a call each.
+    Steps,
 }
 
 #[derive(Clone, Debug, PartialEq)]
@@ -64,11 +75,13 @@ pub struct Work {
     scratch: Vec<u32>,
     state: Vec<u32>,
     roll: Vec<u32>,
-    next: u32,
+    /// The process that had the last step; after a start, the one before process 0.
+    last: u32,
     /// Calls that ask the table's questions, so far.
     pub calls: usize,
     checked: Result<(), Refusal>,
     stepped: Option<Result<Answer, Refusal>>,
+    served: Option<Served>,
 }
 
 /// All that is timed, in the order in which it is printed.
@@ -86,8 +99,15 @@ pub fn all() -> Vec<Work> {
     all.push(Work::step_left_early());
     all.push(Work::idle());
     all.extend([2, 4, 16].map(Work::run));
+    for (nodes, procedures, processes) in [(16, 1, 16), (256, 16, 4), (256, 16, 16)] {
+        all.extend(Work::turns(nodes, procedures, processes));
+    }
     all.extend(refused::all().into_iter().map(Work::refused_check));
     all
+}
+
+fn size(nodes: usize, procedures: usize, processes: u32) -> String {
+    format!("N {nodes}, P {procedures}, processes {processes}")
 }
 
 impl Work {
@@ -106,10 +126,11 @@ impl Work {
             scratch: vec![0; SCRATCH_WORDS],
             state: vec![0; count * PROCESS_WORDS],
             roll: vec![0; count * ROLL_WORDS],
-            next: 0,
+            last: processes - 1,
             calls: 0,
             checked: Ok(()),
             stepped: None,
+            served: None,
         }
     }
 
@@ -142,7 +163,7 @@ impl Work {
     }
 
     fn step(nodes: usize, procedures: usize, processes: u32) -> Work {
-        let what = format!("step, N {nodes}, P {procedures}, processes {processes}");
+        let what = format!("step, {}", size(nodes, procedures, processes));
         Work::step_of(what, inputs::table(nodes, procedures).bytes(), processes)
     }
 
@@ -187,7 +208,7 @@ impl Work {
     }
 
     fn exchange(nodes: usize, procedures: usize) -> Work {
-        let size = format!("N {nodes}, P {procedures}, processes {MOST_PROCESSES}");
+        let size = size(nodes, procedures, MOST_PROCESSES as u32);
         let what = format!("step that completes an exchange, {size}");
         Work::at_exchange(what, Task::Exchange, nodes, procedures)
     }
@@ -210,6 +231,31 @@ impl Work {
         Work::new(what, Task::Run, stocktake(), STOCKTAKE_VARIABLES, processes)
     }
 
+    /// Steps, and the same turns served: the table repeats its main body for ever.
+    fn turns(nodes: usize, procedures: usize, processes: u32) -> [Work; 2] {
+        let size = size(nodes, procedures, processes);
+        [(Task::Steps, "steps"), (Task::Serve, "turns served")].map(|(task, name)| Work {
+            what: format!("{TURNS} {name}, {size}"),
+            task,
+            ..Work::step(nodes, procedures, processes)
+        })
+    }
+
+    pub fn is_of_turns(&self) -> bool {
+        matches!(self.task, Task::Serve | Task::Steps)
+    }
+
+    /// Whether these are the steps that turns of the other's table and team are compared with.
+    pub fn is_steps_of(&self, turns: &Work) -> bool {
+        self.task == Task::Steps && self.table == turns.table && self.processes == turns.processes
+    }
+
+    /// Whether the two have come to the same words, and the same process had the last step.
+    #[cfg(test)]
+    pub fn stands_as(&self, other: &Work) -> bool {
+        (&self.state, &self.roll, self.last) == (&other.state, &other.roll, other.last)
+    }
+
     pub fn table_words(&self) -> usize {
         self.table.len() / 4
     }
@@ -220,17 +266,22 @@ impl Work {
                 self.calls += 1;
                 self.checked = (side.check)(&self.table, &mut self.scratch);
             }
-            Task::Step | Task::Idle => {
-                self.take_step(side);
+            Task::Step => {
+                self.take_step(side, self.after(self.last));
+            }
+            Task::Idle => {
+                self.take_step(side, 0);
             }
             Task::Exchange => {
                 self.wait_for_first();
-                self.take_step(side);
+                self.take_step(side, 0);
             }
             Task::Run => {
                 self.start(side);
-                while self.take_step(side) == Some(TeamStatus::Going) {}
+                while self.take_step(side, self.after(self.last)) == Some(TeamStatus::Going) {}
             }
+            Task::Serve => self.serve(side),
+            Task::Steps => self.take_steps(side),
         }
     }
 
@@ -239,34 +290,71 @@ impl Work {
             table, state, roll, ..
         } = self;
         self.calls += 1;
-        self.next = 0;
+        self.last = self.processes - 1;
         self.checked = (side.start)(table, self.processes, &self.start_words, state, roll);
     }
 
-    fn take_step(&mut self, side: Side) -> Option<TeamStatus> {
+    fn take_step(&mut self, side: Side, process: u32) -> Option<TeamStatus> {
         let Work {
             table, state, roll, ..
         } = self;
-        let answer = (side.step)(table, state, roll, self.next);
+        let answer = (side.step)(table, state, roll, process);
         self.calls += 1;
-        if matches!(self.task, Task::Step | Task::Run) {
-            self.next = (self.next + 1) % self.processes;
-        }
+        self.last = process;
         self.stepped = Some(answer);
         answer.ok().map(|answer| answer.team)
     }
 
-    /// Only a refused check may be refused, and by its question, and an exchange must be completed:
-    /// another call takes another time.
+    fn take_steps(&mut self, side: Side) {
+        for _ in 0..TURNS {
+            if self.take_step(side, self.next_running()) != Some(TeamStatus::Going) {
+                break;
+            }
+        }
+    }
+
+    fn serve(&mut self, side: Side) {
+        let Work {
+            table, state, roll, ..
+        } = self;
+        let served = (side.serve)(table, state, roll, self.last, TURNS);
+        self.calls += 1;
+        self.last = served.last;
+        self.served = Some(served);
+    }
+
+    fn after(&self, process: u32) -> u32 {
+        match process + 1 == self.processes {
+            true => 0,
+            false => process + 1,
+        }
+    }
+
+    /// Of a team that is going.
+    fn next_running(&self) -> u32 {
+        let mut process = self.after(self.last);
+        while self.roll[ROLL_WORDS * process as usize] != RUNNING {
+            process = self.after(process);
+        }
+        process
+    }
+
+    /// Only a refused check may be refused, and by its question, an exchange must be completed, and
+    /// all turns must be made: another call takes another time.
     pub fn is_as_expected(&self) -> bool {
         let refused_by = self.checked.err().map(|refusal| refusal.number);
         let is_stepped = match self.stepped {
-            Some(Ok(Answer { event, .. })) => {
-                self.task != Task::Exchange || event == Event::Completed(self.exchange)
-            }
+            Some(Ok(Answer { event, team })) => match self.task {
+                Task::Exchange => event == Event::Completed(self.exchange),
+                Task::Steps => team == TeamStatus::Going,
+                _ => true,
+            },
             Some(Err(_)) => false,
             None => true,
         };
-        refused_by == self.refused_by && is_stepped
+        let is_served = self
+            .served
+            .is_none_or(|served| served.made == TURNS && served.refusal.is_none());
+        refused_by == self.refused_by && is_stepped && is_served
     }
 }

@@ -3,7 +3,7 @@
 
 use crate::leaves::{self, leaving};
 use crate::words;
-use finchchaise::{Answer, Refusal};
+use finchchaise::{Answer, Refusal, Served};
 use std::fmt::Debug;
 
 const MARGIN: usize = 3;
@@ -115,6 +115,16 @@ impl Team<'_> {
         leaving(self.table, self.model.state.lent(), process).map(<[u32]>::to_vec)
     }
 
+    /// Whether a call passes the questions up to 23.
+    pub fn is_sound(&self) -> bool {
+        let Buffers {
+            mut state,
+            mut roll,
+        } = self.model.clone();
+        let asked = words::serve(self.table, state.words(), roll.words(), 0, 0);
+        asked.refusal.is_none()
+    }
+
     pub fn start(&mut self, processes: u32, start_words: &[u32]) -> Result<(), Refusal> {
         let Team {
             table,
@@ -141,6 +151,19 @@ impl Team<'_> {
         let (state, roll) = (model.state.words(), model.roll.words());
         let expected = words::step(table, state, roll, process);
         self.same(answer, expected, || format!("step of {process}"))
+    }
+
+    pub fn serve(&mut self, last: u32, turns: u32) -> Served {
+        let Team {
+            table,
+            library,
+            model,
+        } = self;
+        let (state, roll) = (library.state.words(), library.roll.words());
+        let answer = finchchaise::serve(table, state, roll, last, turns);
+        let (state, roll) = (model.state.words(), model.roll.words());
+        let expected = words::serve(table, state, roll, last, turns);
+        self.same(answer, expected, || format!("{turns} turns after {last}"))
     }
 
     fn same<T: Debug + PartialEq>(&self, answer: T, expected: T, call: impl Fn() -> String) -> T {

@@ -2,7 +2,7 @@
 
 use crate::random::Random;
 use crate::shape::{BROADCAST, FIRST_COLLECTIVE, FIRST_STATEMENT};
-use crate::shape::{LAST_COLLECTIVE, LAST_EXPRESSION, LAST_STATEMENT};
+use crate::shape::{LAST_COLLECTIVE, LAST_EXPRESSION, LAST_STATEMENT, LEAVE, WHILE};
 use crate::tree::leaves;
 use finchchaise::{DEPTH_AT, MOST_PROCESSES, PROCESS_WORDS, ROLL_WORDS, STACK, STACK_AT};
 use finchchaise_samples::Builder;
@@ -59,6 +59,16 @@ impl MadeUp {
         made_up
     }
 
+    /// The process after which the one asked for is served; itself if it is not there.
+    pub fn before_asked(&self) -> u32 {
+        let count = (self.roll.len() / ROLL_WORDS) as u32;
+        match self.asked {
+            0 if count > 0 => count - 1,
+            asked if asked < count => asked - 1,
+            asked => asked,
+        }
+    }
+
     fn place(&mut self, nodes: &Nodes, random: &mut Random) {
         let meeting = match nodes.collectives.is_empty() {
             true => 0,
@@ -76,6 +86,26 @@ impl MadeUp {
                 Plan::Apart | Plan::Leaving => self.stand(process, nodes, random),
             }
         }
+        if random.one_in(2) {
+            self.trap(nodes, random);
+        }
+    }
+
+    /// What only a later turn comes upon, in a process that is not about to leave: a leave below
+    /// the top, without its while, or a full stack with a while on it.
+    fn trap(&mut self, nodes: &Nodes, random: &mut Random) {
+        let process = random.below(self.roll.len() / ROLL_WORDS);
+        let ended = self.words(process)[DEPTH_AT] == 0;
+        if ended || nodes.kinds[*self.top(process) as usize] == LEAVE {
+            return;
+        }
+        let runs_later = self.record(process)[0] == 0 && process != self.asked as usize;
+        if !nodes.leaves.is_empty() && random.one_in(2) {
+            self.bury(process, random.pick(&nodes.leaves));
+        } else if !nodes.whiles.is_empty() && runs_later {
+            self.fill(process, STACK, nodes, random);
+            self.put_top(process, random.pick(&nodes.whiles));
+        }
     }
 
     /// Ended, waiting or running; a running process may have a leave on top.
@@ -90,9 +120,13 @@ impl MadeUp {
         }
     }
 
-    /// Words above the depth stay random: they are not to be looked at.
     fn fill_stack(&mut self, process: usize, nodes: &Nodes, random: &mut Random) {
         let depth = random.pick(&[1, 1, 1, 2, 2, 3, 17, STACK - 1, STACK, STACK, STACK]);
+        self.fill(process, depth, nodes, random);
+    }
+
+    /// Words above the depth stay random: they are not to be looked at.
+    fn fill(&mut self, process: usize, depth: usize, nodes: &Nodes, random: &mut Random) {
         let words = self.words(process);
         words[DEPTH_AT] = depth as u32;
         for entry in &mut words[STACK_AT..STACK_AT + depth] {
@@ -128,10 +162,19 @@ impl MadeUp {
         let words = self.words(process);
         let depth = words[DEPTH_AT] as usize;
         let (entries, above) = words[STACK_AT..].split_at_mut(depth);
-        for entry in entries.iter_mut().filter(|entry| **entry == left) {
-            *entry = leave;
-        }
+        replace(entries, left, leave);
         above.iter_mut().take(1).for_each(|place| *place = left);
+    }
+
+    /// The leave stands right below the top, its while nowhere below that.
+    fn bury(&mut self, process: usize, (leave, left): (u32, u32)) {
+        let top = *self.top(process);
+        let words = self.words(process);
+        let depth = words[DEPTH_AT].max(2) as usize;
+        words[DEPTH_AT] = depth as u32;
+        let entries = &mut words[STACK_AT..STACK_AT + depth];
+        replace(entries, left, leave);
+        entries[depth - 2..].copy_from_slice(&[leave, top]);
     }
 
     fn end(&mut self, process: usize) {
@@ -207,6 +250,12 @@ impl MadeUp {
     }
 }
 
+fn replace(entries: &mut [u32], old: u32, new: u32) {
+    for entry in entries.iter_mut().filter(|entry| **entry == old) {
+        *entry = new;
+    }
+}
+
 fn change_length(words: &mut Vec<u32>, changes: &[usize], random: &mut Random) {
     let change = random.pick(changes);
     match random.one_in(2) {
@@ -221,6 +270,7 @@ struct Nodes {
     statements: Vec<u32>,
     collectives: Vec<u32>,
     expressions: Vec<u32>,
+    whiles: Vec<u32>,
     /// With the while that each ends.
     leaves: Vec<(u32, u32)>,
 }
@@ -236,6 +286,7 @@ impl Nodes {
             statements: of(FIRST_STATEMENT, LAST_STATEMENT),
             collectives: of(FIRST_COLLECTIVE, LAST_COLLECTIVE),
             expressions: of(0, LAST_EXPRESSION),
+            whiles: of(WHILE, WHILE),
             leaves: leaves(&table.nodes),
             kinds,
         }

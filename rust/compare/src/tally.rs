@@ -1,8 +1,10 @@
 //! What a comparison has covered.
 
+use crate::both::Team;
 use crate::leaves::{self, Shown, SHOWN};
+use crate::served::{self, Ending, ENDINGS};
 use crate::sources::{self, SOURCES};
-use finchchaise::{Answer, Event, Refusal, TeamStatus};
+use finchchaise::{Answer, Event, Refusal, Served, TeamStatus};
 use std::io::Write;
 use std::{fmt, io};
 
@@ -23,6 +25,10 @@ pub struct Tally {
     pub leaves: [usize; SHOWN.len()],
     /// Sources of broadcasts that took place, in the order of `SOURCES`.
     pub sources: [usize; SOURCES.len()],
+    /// Turns that were served.
+    pub made: usize,
+    /// How serving ended, in the order of `ENDINGS`.
+    pub endings: [usize; ENDINGS.len()],
 }
 
 impl Tally {
@@ -80,6 +86,13 @@ impl Tally {
         }
     }
 
+    /// A call for so many turns, which left the team as it is.
+    pub fn served(&mut self, team: &Team, turns: u32, answer: Served) {
+        self.judged(answer.refusal.map_or(Ok(()), Err));
+        self.made += answer.made as usize;
+        self.endings[served::of_call(team, turns, answer) as usize] += 1;
+    }
+
     pub fn calls(&self) -> usize {
         self.taken + self.refused.iter().sum::<usize>()
     }
@@ -111,6 +124,13 @@ impl Tally {
         }
     }
 
+    pub fn assert_endings(&self, wanted: &[(Ending, usize)]) {
+        for &(ending, least) in wanted {
+            let times = self.endings[ending as usize];
+            assert!(times >= least, "{ending:?} only {times} times: {self}");
+        }
+    }
+
     /// Not by println, which a test keeps to itself unless it fails.
     pub fn show(&self, what: &str) {
         let line = format!("compared {what}: {self}\n");
@@ -123,8 +143,12 @@ impl Tally {
 impl fmt::Display for Tally {
     fn fmt(&self, out: &mut fmt::Formatter) -> fmt::Result {
         write!(out, "{} calls, {} taken", self.calls(), self.taken)?;
+        if self.made > 0 {
+            write!(out, ", {} turns served", self.made)?;
+        }
         let words = EVENTS.iter().chain(&TEAMS).chain(&SHOWN).chain(&SOURCES);
-        let shown = self.leaves.iter().chain(&self.sources);
+        let words = words.chain(&ENDINGS);
+        let shown = self.leaves.iter().chain(&self.sources).chain(&self.endings);
         let times = self.events.iter().chain(&self.teams).chain(shown);
         for (word, times) in words.zip(times) {
             if *times > 0 {

@@ -1,6 +1,6 @@
-//! The model's start and step on the plain words of a roll.
+//! The model's start, step and serve on the plain words of a roll.
 
-use finchchaise::{Answer, Event, Refusal, TeamStatus, ROLL_WORDS};
+use finchchaise::{Answer, Event, Refusal, Served, TeamStatus, ROLL_WORDS};
 use finchchaise_model as model;
 use finchchaise_model::{Arrival, Status};
 
@@ -34,6 +34,20 @@ pub fn step(
         event: event(answer.event),
         team: team(answer.team),
     })
+}
+
+/// Without a turn nothing changes, so a record that the model has no word for stays as it is.
+pub fn serve(table: &[u8], state: &mut [u32], roll: &mut [u32], last: u32, turns: u32) -> Served {
+    let mut arrivals = arrivals(roll);
+    let answer = model::serve(table, state, &mut arrivals, last, turns);
+    if answer.made > 0 {
+        write(&arrivals, roll);
+    }
+    Served {
+        made: answer.made,
+        last: answer.last,
+        refusal: answer.refusal.map(refusal),
+    }
 }
 
 /// A roll that is no whole number of records is refused with 21, as an empty one is.

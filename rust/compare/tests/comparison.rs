@@ -3,8 +3,7 @@
 use finchchaise::{Answer, Refusal, TeamStatus};
 use finchchaise::{DOORS, LATCHES, MOST_PROCESSES, PROCESS_WORDS, ROLL_WORDS, SCRATCH_WORDS};
 use finchchaise_compare::{check, latches, MadeUp, Plan, Random, Shown, Tally, Team};
-use finchchaise_compare::{damaged, random_bytes, small_table, table};
-use finchchaise_samples::Builder;
+use finchchaise_compare::{damaged, random_bytes, small_table, start_words, table};
 
 const CHECKS_A_SOURCE: usize = 50_000;
 const MOST_TURNS_A_PROCESS: usize = 60;
@@ -76,23 +75,6 @@ fn checks_of_small_tables() {
 fn checks_of_random_bytes() {
     let tally = checks("checks of random bytes", 5, random_bytes);
     tally.assert_refused(2..=7, 50);
-}
-
-/// Small words mostly, so that loops end; equal in the single variables if `equal`.
-fn start_words(table: &Builder, count: usize, equal: bool, random: &mut Random) -> Vec<u32> {
-    let mut words = Vec::new();
-    for process in 0..count {
-        for variable in 0..table.variables {
-            let single = table.single.contains(&variable);
-            words.push(match process > 0 && single && equal {
-                true => words[variable as usize],
-                false if random.one_in(4) => random.word(),
-                false => random.below(4) as u32,
-            });
-        }
-        words.extend(random.words(DOORS));
-    }
-    words
 }
 
 /// A step, and what it shows.

@@ -1,6 +1,6 @@
 //! What the calls answer.
 
-use crate::raw::FcStep;
+use crate::raw::{FcServe, FcStep};
 use core::fmt;
 
 /// Question `number` of the rules paper failed at `place`, which is 0 where the paper names none.
@@ -47,6 +47,17 @@ pub struct Answer {
     pub team: TeamStatus,
 }
 
+/// The answer to a serve.
+#[derive(Clone, Copy, Debug, PartialEq, Eq, Hash)]
+pub struct Served {
+    /// How many turns were made. They stand, also if the next one was refused.
+    pub made: u32,
+    /// The process that had the last of them; the one given if none was made.
+    pub last: u32,
+    /// Of the call, in which case no turn was made, or of the turn that would have come next.
+    pub refusal: Option<Refusal>,
+}
+
 impl Refusal {
     /// An answer of fc_check or fc_start.
     pub(crate) fn judged(answer: u64) -> Result<(), Refusal> {
@@ -70,6 +81,23 @@ impl Answer {
             event: Event::numbered(step.event, step.node),
             team: TeamStatus::numbered(step.site),
         })
+    }
+}
+
+impl Served {
+    pub(crate) fn judged(serve: FcServe) -> Served {
+        let FcServe {
+            made,
+            last,
+            number,
+            place,
+        } = serve;
+        let refusal = (number != 0).then_some(Refusal { number, place });
+        Served {
+            made,
+            last,
+            refusal,
+        }
     }
 }
 

@@ -1,12 +1,12 @@
 //! Safe Rust over the proved library: a checker of site tables and a machine that runs them.
 //!
 //! The host lends all memory; the library allocates nothing and keeps nothing between calls. Any
-//! bytes and words may be passed: what does not fit is refused, and a refused call changes neither
+//! bytes and words may be passed: what does not fit is refused, and what is refused changes neither
 //! state nor roll. The words are described in docs/FORMAT.md. A process is the rules paper's bank,
 //! a team its site, a step its turn and a collective its meeting.
 //!
 //! ```
-//! use finchchaise::{check, start, step, Event, TeamStatus};
+//! use finchchaise::{check, serve, start, step, Event, TeamStatus};
 //! use finchchaise::{DOORS, PROCESS_WORDS, ROLL_WORDS, SCRATCH_WORDS};
 //!
 //! // If there are any processes then a barrier, else nothing; one variable.
@@ -19,11 +19,11 @@
 //! let mut state = [0; 2 * PROCESS_WORDS];
 //! let mut roll = [0; 2 * ROLL_WORDS];
 //! start(&table, 2, &[0; 2 * (1 + DOORS)], &mut state, &mut roll)?;
-//! for process in [0, 0, 1] {
-//!     step(&table, &mut state, &mut roll, process)?;
-//! }
-//! let last = step(&table, &mut state, &mut roll, 1)?;
-//! assert_eq!((last.event, last.team), (Event::Completed(1), TeamStatus::Done));
+//! // Process 0 comes after process 1, which is given as the one served last.
+//! let served = serve(&table, &mut state, &mut roll, 1, 3);
+//! assert_eq!((served.made, served.last, served.refusal), (3, 0, None));
+//! let answer = step(&table, &mut state, &mut roll, 1)?;
+//! assert_eq!((answer.event, answer.team), (Event::Completed(1), TeamStatus::Done));
 //! # Ok::<(), finchchaise::Refusal>(())
 //! ```
 
@@ -33,7 +33,7 @@ mod answer;
 mod arrival;
 mod raw;
 
-pub use answer::{Answer, Event, Refusal, TeamStatus};
+pub use answer::{Answer, Event, Refusal, Served, TeamStatus};
 pub use arrival::{Arrival, Status};
 
 /// The longest table.
@@ -83,7 +83,7 @@ pub fn start(
 }
 
 /// One step of a process (questions 2 to 12, 26 and 20 to 24). Table, state and roll are those of
-/// the start, as the step before left them.
+/// the start, as the call before left them.
 pub fn step(
     table: &[u8],
     state: &mut [u32],
@@ -91,6 +91,16 @@ pub fn step(
     process: u32,
 ) -> Result<Answer, Refusal> {
     Answer::judged(raw::step(table, state, roll, process))
+}
+
+/// Makes up to so many turns, each a step of the first running process after the one that had the
+/// turn before (`last` for the first), cyclically. It stops early when no process runs.
+///
+/// Questions 2 to 12, 26 and 20 to 23 are asked at the call, also for no turns; 22 is asked of
+/// `last`. Then each turn is asked 23 and 24. One that would be refused is not made, and the turns
+/// made stand. Table, state and roll are as for a step; with those only 22 refuses.
+pub fn serve(table: &[u8], state: &mut [u32], roll: &mut [u32], last: u32, turns: u32) -> Served {
+    Served::judged(raw::serve(table, state, roll, last, turns))
 }
 
 /// A process's latches, or `None` for a process that the state lacks and for a state that is no

@@ -11,6 +11,15 @@ pub struct FcStep {
     pub site: u32,
 }
 
+/// The answer to a serve; a number of 0 says that nothing was refused.
+#[repr(C)]
+pub struct FcServe {
+    pub made: u32,
+    pub last: u32,
+    pub number: u32,
+    pub place: u32,
+}
+
 unsafe extern "C" {
     fn fc_check(
         table: *const u8,
@@ -40,6 +49,17 @@ unsafe extern "C" {
         roll_length: usize,
         process: u32,
     ) -> FcStep;
+
+    fn fc_serve(
+        table: *const u8,
+        table_length: usize,
+        state: *mut u32,
+        state_length: usize,
+        roll: *mut u32,
+        roll_length: usize,
+        last: u32,
+        turns: u32,
+    ) -> FcServe;
 
     fn fc_latches(
         state: *const u32,
@@ -96,6 +116,22 @@ pub fn step(table: &[u8], state: &mut [u32], roll: &mut [u32], process: u32) -> 
             roll.as_mut_ptr(),
             roll.len(),
             process,
+        )
+    }
+}
+
+pub fn serve(table: &[u8], state: &mut [u32], roll: &mut [u32], last: u32, turns: u32) -> FcServe {
+    // SAFETY: as in `start`.
+    unsafe {
+        fc_serve(
+            table.as_ptr(),
+            table.len(),
+            state.as_mut_ptr(),
+            state.len(),
+            roll.as_mut_ptr(),
+            roll.len(),
+            last,
+            turns,
         )
     }
 }

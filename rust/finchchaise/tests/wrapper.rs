@@ -1,19 +1,20 @@
 //! What the wrapper adds to the library's numbers: types, printed words, views. Whether the library
 //! answers rightly is compared elsewhere, in rust/compare.
 
-use finchchaise::{check, copy_latches, latches, start, step};
-use finchchaise::{Answer, Arrival, Event, Refusal, Status, TeamStatus};
-use finchchaise::{DOORS, LATCHES_AT, PROCESS_WORDS, ROLL_WORDS, SCRATCH_WORDS};
+use finchchaise::{check, copy_latches, latches, serve, start, step};
+use finchchaise::{Answer, Arrival, Event, Refusal, Served, Status, TeamStatus};
+use finchchaise::{DEPTH_AT, DOORS, LATCHES_AT, PROCESS_WORDS, ROLL_WORDS};
+use finchchaise::{SCRATCH_WORDS, STACK, STACK_AT};
+
+fn bytes(words: &[u32]) -> Vec<u8> {
+    words.iter().flat_map(|word| word.to_be_bytes()).collect()
+}
 
 /// If own number (T1) or number of processes (T2) then barrier else nothing.
 fn table(condition: u32) -> Vec<u8> {
-    let words = [
+    bytes(&[
         0x10420400, 0, 0x03800000, condition, 0xB8000000, 0x80000000, 0x98000202,
-    ];
-    words
-        .iter()
-        .flat_map(|word| u32::to_be_bytes(*word))
-        .collect()
+    ])
 }
 
 fn t1() -> Vec<u8> {
@@ -22,6 +23,13 @@ fn t1() -> Vec<u8> {
 
 fn t2() -> Vec<u8> {
     table(0x18000000)
+}
+
+/// Nothing, then nothing: node 2.
+fn sequence() -> Vec<u8> {
+    bytes(&[
+        0x10420300, 0, 0x02000000, 0x80000000, 0x80000000, 0x90000200,
+    ])
 }
 
 struct Team {
@@ -44,6 +52,10 @@ impl Team {
 
     fn step(&mut self, process: u32) -> Result<Answer, Refusal> {
         step(&self.table, &mut self.state, &mut self.roll, process)
+    }
+
+    fn serve(&mut self, last: u32, turns: u32) -> Served {
+        serve(&self.table, &mut self.state, &mut self.roll, last, turns)
     }
 
     fn printed(&mut self, processes: &[u32]) -> Vec<String> {
@@ -100,6 +112,36 @@ fn answers_are_typed() {
     assert_eq!(team.step(0), answer(Event::Arrived(1), TeamStatus::Going));
     assert_eq!(team.step(1), answer(Event::Moved, TeamStatus::Going));
     assert_eq!(team.step(1), answer(Event::Completed(1), TeamStatus::Done));
+}
+
+#[test]
+fn served_turns_are_counted_and_stand() {
+    let served = |made, last, refusal| Served {
+        made,
+        last,
+        refusal,
+    };
+    let mut team = Team::started(t2());
+    assert_eq!(team.serve(1, 0), served(0, 1, None));
+    assert_eq!(team.serve(1, 3), served(3, 0, None));
+    assert_eq!(team.serve(0, 9), served(1, 1, None));
+    let beyond = Refusal {
+        number: 22,
+        place: u32::MAX,
+    };
+    assert_eq!(team.serve(u32::MAX, 9), served(0, u32::MAX, Some(beyond)));
+
+    // Process 1 has no free place on its stack, where one is needed.
+    let mut team = Team::started(sequence());
+    let words = &mut team.state[PROCESS_WORDS..];
+    words[DEPTH_AT] = STACK as u32;
+    words[STACK_AT..].fill(2);
+    let full = Refusal {
+        number: 24,
+        place: 1,
+    };
+    assert_eq!(team.serve(1, 9), served(1, 0, Some(full)));
+    assert_eq!(team.state[DEPTH_AT], 2);
 }
 
 #[test]

@@ -18,12 +18,14 @@ mod leave;
 mod process;
 mod programs;
 mod refusal;
+mod scheduler;
 mod table;
 mod team;
 
 pub use arrival::{Arrival, Status};
 pub use judgement::check;
 pub use process::{latches, PROCESS_WORDS};
-pub use programs::{check_table, run_team};
+pub use programs::{check_table, run_team, schedule_team};
 pub use refusal::Refusal;
+pub use scheduler::{serve, Served};
 pub use team::{start, step, Answer, Event, TeamStatus};

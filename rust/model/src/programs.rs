@@ -1,11 +1,12 @@
-//! The text of the check program and of the run program.
+//! The text of the check program, the run program and the serve program.
 
 use crate::arrival::Arrival;
 use crate::judgement::{check, SCRATCH_WORDS};
 use crate::process::PROCESS_WORDS;
-use crate::refusal::Refusal;
+use crate::refusal::{ask, Refusal};
+use crate::scheduler::serve;
 use crate::table::words_of;
-use crate::team::{start, startable, step, Answer, Event, TeamStatus};
+use crate::team::{start, startable, step, team_status, Answer, Event, TeamStatus};
 
 const MOST_INPUT: usize = 32_768;
 
@@ -19,56 +20,79 @@ pub fn check_table(input: &[u8]) -> String {
 
 /// What the run program prints for its input.
 pub fn run_team(input: &[u8]) -> String {
-    match Run::begin(input) {
-        Ok(run) => run.text(),
-        Err(refusal) => format!("{refusal}\n"),
-    }
+    run(input).unwrap_or_else(|refusal| format!("{refusal}\n"))
 }
 
-/// A run after its start.
-struct Run<'input> {
-    table: &'input [u8],
+/// What the serve program prints for its input.
+pub fn schedule_team(input: &[u8]) -> String {
+    schedule(input).unwrap_or_else(|refusal| format!("{refusal}\n"))
+}
+
+const NO_INPUT: Refusal = Refusal {
+    number: 25,
+    place: 0,
+};
+
+/// A refused start prints no header, a refused turn ends the text.
+fn run(input: &[u8]) -> Result<String, Refusal> {
+    let (table, processes, rest) = split_input(input).ok_or(NO_INPUT)?;
+    let (mut team, turns) = Started::read(table, processes, rest)?;
+    let mut text = "bank what node site\n".to_string();
+    for &process in turns {
+        let process = process as u32;
+        match step(table, &mut team.state, &mut team.arrivals, process) {
+            Ok(answer) => text += &line(process, answer),
+            Err(refusal) => return Ok(text + &format!("{refusal}\n")),
+        }
+    }
+    Ok(text)
+}
+
+/// Start words are all that may follow. From a start, only the call itself is refused, with 22.
+fn schedule(input: &[u8]) -> Result<String, Refusal> {
+    let (table, processes, rest) = split_input(input).ok_or(NO_INPUT)?;
+    let (last, rest) = split_word(rest).ok_or(NO_INPUT)?;
+    let (turns, rest) = split_word(rest).ok_or(NO_INPUT)?;
+    let (mut team, left_over) = Started::read(table, processes, rest)?;
+    ask(19, left_over.is_empty())?;
+    let served = serve(table, &mut team.state, &mut team.arrivals, last, turns);
+    let refused_line = match served.refusal {
+        Some(refusal) if refusal.number == 22 => return Err(refusal),
+        Some(refusal) => format!("{refusal}\n"),
+        None => String::new(),
+    };
+    let site = site(team_status(&team.arrivals));
+    let (made, last) = (served.made, served.last);
+    Ok(format!(
+        "made last site\n{made} {last} {site}\n{refused_line}"
+    ))
+}
+
+/// A team after its start.
+struct Started {
     state: Vec<u32>,
     arrivals: Vec<Arrival>,
-    turns: &'input [u8],
 }
 
-impl Run<'_> {
-    fn begin(input: &[u8]) -> Result<Run<'_>, Refusal> {
-        let no_run = Refusal {
-            number: 25,
-            place: 0,
-        };
+impl Started {
+    /// Takes the start words off the bytes and answers what is left of them.
+    fn read<'input>(
+        table: &[u8],
+        processes: u32,
+        bytes: &'input [u8],
+    ) -> Result<(Started, &'input [u8]), Refusal> {
         let cut_short = Refusal {
             number: 19,
             place: 0,
         };
-        let (table, processes, rest) = split_input(input).ok_or(no_run)?;
         let (_, words) = startable(table, processes)?;
-        let (start_bytes, turns) = rest.split_at_checked(4 * words).ok_or(cut_short)?;
+        let (start_bytes, rest) = bytes.split_at_checked(4 * words).ok_or(cut_short)?;
         let count = processes as usize;
         let mut state = vec![0; count * PROCESS_WORDS];
         let mut arrivals = vec![Arrival::running(); count];
         let start_words = words_of(start_bytes);
         start(table, processes, &start_words, &mut state, &mut arrivals)?;
-        Ok(Run {
-            table,
-            state,
-            arrivals,
-            turns,
-        })
-    }
-
-    fn text(mut self) -> String {
-        let mut text = "bank what node site\n".to_string();
-        for &process in self.turns {
-            let process = process as u32;
-            match step(self.table, &mut self.state, &mut self.arrivals, process) {
-                Ok(answer) => text += &line(process, answer),
-                Err(refusal) => return text + &format!("{refusal}\n"),
-            }
-        }
-        text
+        Ok((Started { state, arrivals }, rest))
     }
 }
 
@@ -97,10 +121,15 @@ fn line(process: u32, answer: Answer) -> String {
         Event::Waiting => ("waits", 0),
         Event::Ended => ("ended", 0),
     };
-    let team = match answer.team {
+    let site = site(answer.team);
+    format!("{process} {what} {node} {site}\n")
+}
+
+/// The printed word.
+fn site(team: TeamStatus) -> &'static str {
+    match team {
         TeamStatus::Going => "going",
         TeamStatus::Done => "done",
         TeamStatus::Deadlocked => "crossed",
-    };
-    format!("{process} {what} {node} {team}\n")
+    }
 }

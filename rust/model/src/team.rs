@@ -82,22 +82,33 @@ pub fn step(
     arrivals: &mut [Arrival],
     process: u32,
 ) -> Result<Answer, Refusal> {
-    let table = Table::read(table)?;
-    let count = arrivals.len();
-    ask(21, (1..=MOST_PROCESSES).contains(&count))?;
-    ask(20, state.len() == count * PROCESS_WORDS)?;
+    let mut team = ask_team(table, state, arrivals, process)?;
     let number = process as usize;
-    ask_at(22, process, number < count)?;
-    let mut team = Team::read(table, state, arrivals);
-    ask_each(23, count, |number| team.process_is_sound(number))?;
-    ask(23, common_node(arrivals).is_none())?;
     ask_at(24, process, team.stack_suffices(number))?;
     let answer = team.step(number);
     team.write(state, arrivals);
     Ok(answer)
 }
 
-struct Team {
+/// A step's questions up to 23, and the team that passes them.
+pub fn ask_team(
+    table: &[u8],
+    state: &[u32],
+    arrivals: &[Arrival],
+    process: u32,
+) -> Result<Team, Refusal> {
+    let table = Table::read(table)?;
+    let count = arrivals.len();
+    ask(21, (1..=MOST_PROCESSES).contains(&count))?;
+    ask(20, state.len() == count * PROCESS_WORDS)?;
+    ask_at(22, process, (process as usize) < count)?;
+    let team = Team::read(table, state, arrivals);
+    ask_each(23, count, |number| team.process_is_sound(number))?;
+    ask(23, common_node(arrivals).is_none())?;
+    Ok(team)
+}
+
+pub struct Team {
     table: Table,
     processes: Vec<Process>,
     arrivals: Vec<Arrival>,
@@ -185,7 +196,7 @@ impl Team {
         };
         Answer {
             event,
-            team: self.status(),
+            team: team_status(&self.arrivals),
         }
     }
 
@@ -254,15 +265,15 @@ impl Team {
             }
         }
     }
+}
 
-    fn status(&self) -> TeamStatus {
-        let statuses = || self.arrivals.iter().map(|arrival| arrival.status);
-        if statuses().any(|status| status == Status::Running) {
-            TeamStatus::Going
-        } else if statuses().all(|status| status == Status::Ended) {
-            TeamStatus::Done
-        } else {
-            TeamStatus::Deadlocked
-        }
+pub fn team_status(arrivals: &[Arrival]) -> TeamStatus {
+    let statuses = || arrivals.iter().map(|arrival| arrival.status);
+    if statuses().any(|status| status == Status::Running) {
+        TeamStatus::Going
+    } else if statuses().all(|status| status == Status::Ended) {
+        TeamStatus::Done
+    } else {
+        TeamStatus::Deadlocked
     }
 }

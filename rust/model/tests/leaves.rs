@@ -3,27 +3,7 @@
 mod common;
 
 use common::*;
-use finchchaise_model::{check_table, run_team, start, step, Event, TeamStatus, PROCESS_WORDS};
-
-type Node = [u32; 4];
-
-const OWN: Node = [2, 0, 0, 0];
-const COUNT: Node = [3, 0, 0, 0];
-const NOTHING: Node = [16, 0, 0, 0];
-const BARRIER: Node = [23, 0, 0, 0];
-const LEAVE: Node = [26, 0, 0, 0];
-
-const fn sequence(first: u32, second: u32) -> Node {
-    [18, first, second, 0]
-}
-
-const fn choose(condition: u32, then: u32, otherwise: u32) -> Node {
-    [19, condition, then, otherwise]
-}
-
-const fn repeat(condition: u32, body: u32) -> Node {
-    [20, condition, body, 0]
-}
+use finchchaise_model::{check_table, run_team, start, step, Event, TeamStatus};
 
 /// While there are processes: leave, then nothing; then nothing; nothing after the loop.
 const INSIDE_LISTS: [Node; 9] = [
@@ -50,15 +30,6 @@ const NESTED: [Node; 9] = [
     NOTHING,
     sequence(6, 7),
 ];
-
-/// One process's words: these stack entries, and a mark in every place above them.
-fn stacked(entries: &[u32]) -> Vec<u32> {
-    let mut state = vec![0; PROCESS_WORDS];
-    state[DEPTH] = entries.len() as u32;
-    state[STACK..].fill(MARK);
-    state[STACK..][..entries.len()].copy_from_slice(entries);
-    state
-}
 
 /// What a step of one process with this stack does, and its stack words after it.
 fn stepped(table: &[u8], entries: &[u32]) -> (Event, Vec<u32>) {

@@ -1,10 +1,10 @@
-//! Every line of tests/vectors/u02.txt through the model.
+//! Every line of tests/vectors/u04.txt through the model.
 
-use finchchaise_model::{check_table, run_team};
+use finchchaise_model::{check_table, run_team, schedule_team};
 use std::{fs, path::Path};
 
-const VECTORS: &str = "../../tests/vectors/u02.txt";
-const FEWEST_CASES: usize = 341;
+const VECTORS: &str = "../../tests/vectors/u04.txt";
+const FEWEST_CASES: usize = 433;
 const MOST_SHOWN: usize = 5;
 
 /// A line: the program's word, its input and its output in hexadecimal.
@@ -32,6 +32,7 @@ impl Case<'_> {
         let text = match self.program {
             "check" => check_table(&input),
             "run" => run_team(&input),
+            "serve" => schedule_team(&input),
             other => panic!("no program {other}"),
         };
         text.into_bytes()

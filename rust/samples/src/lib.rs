@@ -27,6 +27,7 @@ pub fn samples() -> Vec<Sample> {
         file("stocktake.run", stocktake_run()),
         file("search.run", search_run()),
         file("tariff.run", tariff_run()),
+        file("stocktake.serve", stocktake_serve()),
     ]
 }
 
@@ -175,12 +176,15 @@ pub fn tariff() -> Vec<u8> {
 
 /// A run program's input: length, table, number of processes, start words, turns.
 pub fn run_input(table: &[u8], processes: u32, start: &[u32], turns: &[u8]) -> Vec<u8> {
-    let mut input = bytes(&[table.len() as u32]);
-    input.extend(table);
-    input.extend(bytes(&[processes]));
-    input.extend(bytes(start));
+    let mut input = input(table, &[processes], start);
     input.extend(turns);
     input
+}
+
+/// What all programs that start a team read: length, table, the numbers of the call, start words.
+fn input(table: &[u8], numbers: &[u32], start: &[u32]) -> Vec<u8> {
+    let length = bytes(&[table.len() as u32]);
+    [length, table.to_vec(), bytes(numbers), bytes(start)].concat()
 }
 
 fn t2_two() -> Vec<u8> {
@@ -195,8 +199,17 @@ const BAGS: [[u32; 12]; 2] = [
 
 /// In turns: a step for process 0, one for process 1, and so on.
 fn stocktake_run() -> Vec<u8> {
-    let start = start_words(&[0; 4], &BAGS);
-    run_input(&stocktake(), 2, &start, &[0, 1].repeat(STOCKTAKE_STEPS))
+    let turns = [0, 1].repeat(STOCKTAKE_STEPS);
+    run_input(&stocktake(), 2, &stocktake_start(), &turns)
+}
+
+/// The same, but the machine chooses: two processes, 1 counts as served last, at most 1,000 turns.
+fn stocktake_serve() -> Vec<u8> {
+    input(&stocktake(), &[2, 1, 1000], &stocktake_start())
+}
+
+fn stocktake_start() -> Vec<u32> {
+    start_words(&[0; 4], &BAGS)
 }
 
 /// Every process has the same variables, and doors of its own.

@@ -1,6 +1,7 @@
 //! The files of samples/ are what this package makes, and what their .md files say of them is true.
 
-use finchchaise_model::{check_table, latches, run_team, start, step, Arrival, PROCESS_WORDS};
+use finchchaise_model::{check_table, run_team, schedule_team};
+use finchchaise_model::{latches, start, step, Arrival, PROCESS_WORDS};
 use finchchaise_samples::{samples, search, stocktake, tariff, Sample};
 use std::fs;
 use std::path::PathBuf;
@@ -14,10 +15,13 @@ fn text(name: &str) -> String {
 }
 
 fn answer(sample: &Sample) -> String {
-    match sample.name.ends_with(".table") {
-        true => check_table(&sample.bytes),
-        false => run_team(&sample.bytes),
-    }
+    let program = match sample.name.rsplit_once('.') {
+        Some((_, "table")) => check_table,
+        Some((_, "run")) => run_team,
+        Some((_, "serve")) => schedule_team,
+        _ => panic!("no program for {}", sample.name),
+    };
+    program(&sample.bytes)
 }
 
 #[test]

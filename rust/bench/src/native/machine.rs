@@ -62,38 +62,52 @@ pub fn step(
     roll: &mut [u32],
     process: u32,
 ) -> Result<Answer, Refusal> {
-    let (table, facts) = read(table)?;
-    let (records, rest) = roll.as_chunks_mut();
-    let count = records.len();
-    if !rest.is_empty() || !(1..=MOST_PROCESSES).contains(&count) {
-        return refused(21, 0);
-    }
-    if state.len() != count * PROCESS_WORDS {
-        return refused(20, 0);
-    }
-    let mut team = Team {
-        table,
-        facts,
-        processes: state.as_chunks_mut().0,
-        records,
-    };
-    let number = process as usize;
-    if number >= count {
-        return refused(22, number);
-    }
-    if let Some(unsound) = team.first_unsound() {
-        return refused(23, unsound);
-    }
-    let event = team.turn(number)?;
+    let mut team = Team::asked(table, state, roll, process)?;
+    let event = team.turn(process as usize)?;
     let team = team.status();
     Ok(Answer { event, team })
 }
 
-struct Team<'lent> {
+pub struct Team<'lent> {
     table: Table<'lent>,
     facts: Facts,
     processes: &'lent mut [Words],
     records: &'lent mut [Record],
+}
+
+impl<'lent> Team<'lent> {
+    /// A team that has passed questions 2 to 12, 26 and 20 to 23. Inlined, as it is large to copy.
+    #[inline(always)]
+    pub fn asked(
+        table: &'lent [u8],
+        state: &'lent mut [u32],
+        roll: &'lent mut [u32],
+        process: u32,
+    ) -> Result<Team<'lent>, Refusal> {
+        let (table, facts) = read(table)?;
+        let (records, rest) = roll.as_chunks_mut();
+        let count = records.len();
+        if !rest.is_empty() || !(1..=MOST_PROCESSES).contains(&count) {
+            return refused(21, 0);
+        }
+        if state.len() != count * PROCESS_WORDS {
+            return refused(20, 0);
+        }
+        let team = Team {
+            table,
+            facts,
+            processes: state.as_chunks_mut().0,
+            records,
+        };
+        let number = process as usize;
+        if number >= count {
+            return refused(22, number);
+        }
+        match team.first_unsound() {
+            Some(unsound) => refused(23, unsound),
+            None => Ok(team),
+        }
+    }
 }
 
 impl Team<'_> {
@@ -130,6 +144,23 @@ impl Team<'_> {
             }
     }
 
+    /// Question 23 after a turn, if none failed it before. What a turn writes is as it should be,
+    /// but a leave may then be on top: of the process that moved, or of any after a collective.
+    #[inline]
+    pub fn first_unsound_after(&self, event: Event, process: usize) -> Option<usize> {
+        let can_leave = |&process: &usize| {
+            let words = &self.processes[process];
+            let stack = &words[STACK..][..words[DEPTH] as usize];
+            let top = stack.last();
+            top.is_none_or(|&top| self.can_leave(top as usize, stack))
+        };
+        match event {
+            Event::Moved => Some(process).filter(|process| !can_leave(process)),
+            Event::Completed(_) => (0..self.processes.len()).find(|process| !can_leave(process)),
+            _ => None,
+        }
+    }
+
     /// A leave on top needs its while below.
     fn can_leave(&self, top: usize, stack: &[u32]) -> bool {
         if self.table.node(top).kind != 26 {
@@ -147,7 +178,16 @@ impl Team<'_> {
         all.then_some(node as usize)
     }
 
-    fn turn(&mut self, number: usize) -> Result<Event, Refusal> {
+    /// The first running process after this one, cyclically: this one comes last.
+    #[inline]
+    pub fn next_running(&self, last: usize) -> Option<usize> {
+        let runs = |record: &Record| record[0] == RUNNING;
+        let (first, after) = self.records.split_at(last + 1);
+        let next = after.iter().position(runs).map(|place| last + 1 + place);
+        next.or_else(|| first.iter().position(runs))
+    }
+
+    pub fn turn(&mut self, number: usize) -> Result<Event, Refusal> {
         match self.records[number][0] {
             WAITING => return Ok(Event::Waiting),
             ENDED => return Ok(Event::Ended),

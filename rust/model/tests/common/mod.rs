@@ -1,5 +1,8 @@
 //! Tables out of nodes, and calls on states of their own.
 
+// No test needs all of it.
+#![allow(dead_code)]
+
 use finchchaise_model::{run_team, start, step, Arrival, Refusal, Status, PROCESS_WORDS};
 
 pub const RUNNING: Arrival = arrival(Status::Running, 0, 0, 0);
@@ -24,13 +27,34 @@ pub fn bytes(words: &[u32]) -> Vec<u8> {
     words.iter().flat_map(|word| word.to_be_bytes()).collect()
 }
 
+/// Kind, A, B, C.
+pub type Node = [u32; 4];
+
+pub const OWN: Node = [2, 0, 0, 0];
+pub const COUNT: Node = [3, 0, 0, 0];
+pub const NOTHING: Node = [16, 0, 0, 0];
+pub const BARRIER: Node = [23, 0, 0, 0];
+pub const LEAVE: Node = [26, 0, 0, 0];
+
+pub const fn sequence(first: u32, second: u32) -> Node {
+    [18, first, second, 0]
+}
+
+pub const fn choose(condition: u32, then: u32, otherwise: u32) -> Node {
+    [19, condition, then, otherwise]
+}
+
+pub const fn repeat(condition: u32, body: u32) -> Node {
+    [20, condition, body, 0]
+}
+
 /// One variable, one procedure with the last node as its body.
-pub fn table_of(nodes: &[[u32; 4]]) -> Vec<u8> {
+pub fn table_of(nodes: &[Node]) -> Vec<u8> {
     table_with(&[nodes.len() as u32 - 1], nodes)
 }
 
 /// One variable, procedures with these bodies, all with the effect flag.
-pub fn table_with(bodies: &[u32], nodes: &[[u32; 4]]) -> Vec<u8> {
+pub fn table_with(bodies: &[u32], nodes: &[Node]) -> Vec<u8> {
     let (procedures, count) = (bodies.len() as u32, nodes.len() as u32);
     let mut words = vec![0x10400000 | procedures << 17 | count << 8, 0];
     words.extend(bodies.iter().map(|body| body << 24 | 1 << 23));
@@ -58,6 +82,15 @@ pub fn started(table: &[u8], processes: u32, words: &[u32]) -> (Vec<u32>, Vec<Ar
     let mut arrivals = vec![ENDED; count];
     start(table, processes, words, &mut state, &mut arrivals).expect("a start");
     (state, arrivals)
+}
+
+/// One process's words: these stack entries, and a mark in every place above them.
+pub fn stacked(entries: &[u32]) -> Vec<u32> {
+    let mut state = vec![0; PROCESS_WORDS];
+    state[DEPTH] = entries.len() as u32;
+    state[STACK..].fill(MARK);
+    state[STACK..][..entries.len()].copy_from_slice(entries);
+    state
 }
 
 /// A step that is refused and changes no word.

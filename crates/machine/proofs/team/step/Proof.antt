@@ -1,37 +1,38 @@
 -- `machine::team::step` meets its contract.
-use Rattle.machine.proofs.VerdictSteps.{denied-form}
+use Rattle.machine.proofs.VerdictSteps.{denied-team}
 use mathlib.Core.Path.{sym, _∙_}
 use borrow.Author.Needs.{needs}
 use Rattle.machine.proofs.team.step.Statement.{statement}
 use Rattle.machine.proofs.team.step.Tie as tie
 
-slice-aggregate-well-formed : tie.Need-slice-aggregate-well-formed
-slice-aggregate-well-formed c = search needs
+asked-requires : tie.Need-asked-requires
+asked-requires c κs = search needs
 
-well-formed-requires : tie.Need-well-formed-requires
-well-formed-requires c κs = search needs
-
-enum-known-formed : tie.Need-enum-known-formed
-enum-known-formed c = search needs
+enum-known-verdict : tie.Need-enum-known-verdict
+enum-known-verdict c = search needs
 
 enum-told : tie.Need-enum-told
 enum-told c = search needs
 
-step-formed-requires : tie.Need-step-formed-requires
-step-formed-requires c κs =
-    let formed = c .before .before .before .before .before .well-formed .ensures in
-    sym formed ∙ c .before .before .enum-told .given .1
-
-returns : tie.Need-returns
-returns c =
-    let formed = c .before .before .before .before .well-formed .ensures in
-    denied-form _ _ _ _ (sym formed ∙ c .before .formed .given .1)
+step-asked-requires : tie.Need-step-asked-requires
+step-asked-requires c κs =
+    sym (c .before .before .before .before .asked .ensures) ∙ c .before .before .enum-told .given .1
 
 same-length : tie.Need-same-length
 same-length c = search needs
 
 same-length-2 : tie.Need-same-length-2
 same-length-2 c = search needs
+
+returns : tie.Need-returns
+returns c =
+    denied-team _ _ _ _ (sym (c .before .before .before .asked .ensures) ∙ c .before .verdict .given .1)
+
+same-length-3 : tie.Need-same-length-3
+same-length-3 c = search needs
+
+same-length-4 : tie.Need-same-length-4
+same-length-4 c = search needs
 
 returns-2 : tie.Need-returns-2
 returns-2 c = search needs
@@ -40,12 +41,13 @@ pub step-spec : {M : Type 1} → statement M
 step-spec =
     tie.close
     (tie.spec
-    slice-aggregate-well-formed
-    well-formed-requires
-    enum-known-formed
+    asked-requires
+    enum-known-verdict
     enum-told
-    step-formed-requires
-    returns
+    step-asked-requires
     same-length
     same-length-2
+    returns
+    same-length-3
+    same-length-4
     returns-2)

@@ -22,11 +22,11 @@ returns c =
     rw (is-barrier (args .node) (c .before .if1 .taken), ← c .before .before .top .ensures)
     (c .arrive .ensures ∙ arrive-running (args .arrival) _ _ _ (c .before .before .before .before .before .pre .2))
 
-cast-evaluate : tie.Need-cast-evaluate
-cast-evaluate c = search needs
+cast-value-at : tie.Need-cast-value-at
+cast-value-at c = search needs
 
-evaluate-requires : tie.Need-evaluate-requires
-evaluate-requires c κs =
+value-at-requires : tie.Need-value-at-requires
+value-at-requires c κs =
     let given = c .before .before .before .before .before .before .pre in
     (given .0 .given, exchange-fits (given .0) (c .before .if2 .taken))
 
@@ -40,24 +40,24 @@ returns-2 c =
     let top = past .top in
     let args = past .before .before .before .args in
     let given = past .before .before .before .pre in
-    rw (is-exchange (args .node) (c .before .before .before .if2 .taken), ← top .ensures, ← c .before .evaluate .ensures)
+    rw (is-exchange (args .node) (c .before .before .before .if2 .taken), ← top .ensures, ← c .before .value-at .ensures)
     (c .arrive2 .ensures ∙ arrive-running (args .arrival) _ _ _ (given .2))
 
-cast-evaluate-2 : tie.Need-cast-evaluate-2
-cast-evaluate-2 c = search needs
+cast-value-at-2 : tie.Need-cast-value-at-2
+cast-value-at-2 c = search needs
 
-evaluate-requires-2 : tie.Need-evaluate-requires-2
-evaluate-requires-2 c κs =
+value-at-requires-2 : tie.Need-value-at-requires-2
+value-at-requires-2 c κs =
     let past = c .before .before .before .before .before .before in
     let given = past .pre in
     let range = collective-range (past .args .node .kind) (given .1) in
     (given .0 .given, broadcast-fits (given .0) (omega arith) .1)
 
-cast-evaluate-3 : tie.Need-cast-evaluate-3
-cast-evaluate-3 c = search needs
+cast-value-at-3 : tie.Need-cast-value-at-3
+cast-value-at-3 c = search needs
 
-evaluate-requires-3 : tie.Need-evaluate-requires-3
-evaluate-requires-3 c κs =
+value-at-requires-3 : tie.Need-value-at-requires-3
+value-at-requires-3 c κs =
     let past = c .before .before .before .before .before .before .before .before in
     let given = past .pre in
     let range = collective-range (past .args .node .kind) (given .1) in
@@ -77,8 +77,8 @@ returns-3 c =
     rw (
       is-broadcast (args .node) (omega arith),
       ← top .ensures,
-      ← c .before .before .before .evaluate2 .ensures,
-      ← c .before .evaluate3 .ensures,
+      ← c .before .before .before .value-at2 .ensures,
+      ← c .before .value-at3 .ensures,
     )
     (c .arrive3 .ensures ∙ arrive-running (args .arrival) _ _ _ (given .2))
 
@@ -89,13 +89,13 @@ arrival-of-spec =
     top-requires
     arrive-requires
     returns
-    cast-evaluate
-    evaluate-requires
+    cast-value-at
+    value-at-requires
     arrive-requires-2
     returns-2
-    cast-evaluate-2
-    evaluate-requires-2
-    cast-evaluate-3
-    evaluate-requires-3
+    cast-value-at-2
+    value-at-requires-2
+    cast-value-at-3
+    value-at-requires-3
     arrive-requires-3
     returns-3)

@@ -8,8 +8,8 @@ use borrow.Author.Needs.{needs}
 use Rattle.process.proofs.process.assign.Statement.{statement}
 use Rattle.process.proofs.process.assign.Tie as tie
 
-evaluate-requires : tie.Need-evaluate-requires
-evaluate-requires c κs = search needs
+value-at-requires : tie.Need-value-at-requires
+value-at-requires c κs = search needs
 
 mul-words : tie.Need-mul-words
 mul-words c = search needs
@@ -25,9 +25,9 @@ same-length c = c .before .before .pop .kept .0 ∙ simp length-set
 
 returns : tie.Need-returns
 unfolding advanced
-returns c = rw (← c .before .before .before .before .evaluate .ensures) (c .before .before .pop .ensures)
+returns c = rw (← c .before .before .before .before .value-at .ensures) (c .before .before .pop .ensures)
 
 pub assign-spec : {M : Type 1} → statement M
 assign-spec =
     tie.close
-    (tie.spec evaluate-requires mul-words slice-write-words pop-requires same-length returns)
+    (tie.spec value-at-requires mul-words slice-write-words pop-requires same-length returns)

@@ -5,11 +5,11 @@ use borrow.Author.Needs.{needs}
 use Rattle.process.proofs.process.branch.Statement.{statement}
 use Rattle.process.proofs.process.branch.Tie as tie
 
-cast-evaluate : tie.Need-cast-evaluate
-cast-evaluate c = search needs
+cast-value-at : tie.Need-cast-value-at
+cast-value-at c = search needs
 
-evaluate-requires : tie.Need-evaluate-requires
-evaluate-requires c κs = search needs
+value-at-requires : tie.Need-value-at-requires
+value-at-requires c κs = search needs
 
 replace-requires : tie.Need-replace-requires
 replace-requires c κs = search needs
@@ -23,8 +23,8 @@ same-length c = search needs
 returns : tie.Need-returns
 unfolding advanced
 returns c =
-    let evaluate = c .before .before .before .before .before .evaluate in
-    rw (← evaluate .ensures, eq-eqb _ _ (c .before .before .before .before .if1 .taken)) (c .before .before .replace .ensures)
+    let value-at = c .before .before .before .before .before .value-at in
+    rw (← value-at .ensures, eq-eqb _ _ (c .before .before .before .before .if1 .taken)) (c .before .before .replace .ensures)
 
 same-length-2 : tie.Need-same-length-2
 same-length-2 c = search needs
@@ -32,15 +32,15 @@ same-length-2 c = search needs
 returns-2 : tie.Need-returns-2
 unfolding advanced
 returns-2 c =
-    let evaluate = c .before .before .before .before .before .evaluate in
-    rw (← evaluate .ensures, ne-eqb _ _ (c .before .before .before .before .if1 .left)) (c .before .before .replace2 .ensures)
+    let value-at = c .before .before .before .before .before .value-at in
+    rw (← value-at .ensures, ne-eqb _ _ (c .before .before .before .before .if1 .left)) (c .before .before .replace2 .ensures)
 
 pub branch-spec : {M : Type 1} → statement M
 branch-spec =
     tie.close
     (tie.spec
-    cast-evaluate
-    evaluate-requires
+    cast-value-at
+    value-at-requires
     replace-requires
     replace-requires-2
     same-length

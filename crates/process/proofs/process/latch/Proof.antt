@@ -5,11 +5,11 @@ use borrow.Author.Needs.{needs}
 use Rattle.process.proofs.process.latch.Statement.{statement}
 use Rattle.process.proofs.process.latch.Tie as tie
 
-evaluate-requires : tie.Need-evaluate-requires
-evaluate-requires c κs = search needs
+value-at-requires : tie.Need-value-at-requires
+value-at-requires c κs = search needs
 
-evaluate-requires-2 : tie.Need-evaluate-requires-2
-evaluate-requires-2 c κs = search needs
+value-at-requires-2 : tie.Need-value-at-requires-2
+value-at-requires-2 c κs = search needs
 
 write-latch-requires : tie.Need-write-latch-requires
 write-latch-requires c κs = search needs
@@ -17,12 +17,12 @@ write-latch-requires c κs = search needs
 pop-requires : tie.Need-pop-requires
 pop-requires c κs =
     let past = c .before .before .before .before .before in
-    let evaluate2 = past .evaluate2 in
-    let evaluate = past .before .before .evaluate in
+    let value-at2 = past .value-at2 in
+    let value-at = past .before .before .value-at in
     let args = past .before .before .before .before .before .before .args in
     let given = past .before .before .before .before .before .before .pre in
     rw (c .before .before .before .write-latch .ensures)
-    (stacked-latch (args .words .now) (evaluate .result) (evaluate2 .result) (given .1))
+    (stacked-latch (args .words .now) (value-at .result) (value-at2 .result) (given .1))
 
 same-length : tie.Need-same-length
 same-length c = search needs
@@ -32,16 +32,16 @@ unfolding advanced
 returns c =
     let past = c .before .before .before .before .before .before in
     let write-latch = past .write-latch in
-    let evaluate2 = past .before .before .evaluate2 in
-    let evaluate = past .before .before .before .before .evaluate in
-    rw (← evaluate .ensures, ← evaluate2 .ensures, ← write-latch .ensures) (c .before .before .pop .ensures)
+    let value-at2 = past .before .before .value-at2 in
+    let value-at = past .before .before .before .before .value-at in
+    rw (← value-at .ensures, ← value-at2 .ensures, ← write-latch .ensures) (c .before .before .pop .ensures)
 
 pub latch-spec : {M : Type 1} → statement M
 latch-spec =
     tie.close
     (tie.spec
-    evaluate-requires
-    evaluate-requires-2
+    value-at-requires
+    value-at-requires-2
     write-latch-requires
     pop-requires
     same-length

@@ -5,11 +5,11 @@ use borrow.Author.Needs.{needs}
 use Rattle.process.proofs.process.repeat.Statement.{statement}
 use Rattle.process.proofs.process.repeat.Tie as tie
 
-cast-evaluate : tie.Need-cast-evaluate
-cast-evaluate c = search needs
+cast-value-at : tie.Need-cast-value-at
+cast-value-at c = search needs
 
-evaluate-requires : tie.Need-evaluate-requires
-evaluate-requires c κs = search needs
+value-at-requires : tie.Need-value-at-requires
+value-at-requires c κs = search needs
 
 pop-requires : tie.Need-pop-requires
 pop-requires c κs = search needs
@@ -18,7 +18,7 @@ push-requires : tie.Need-push-requires
 unfolding needsPlace
 push-requires c κs =
     let given = c .before .before .before .before .before .before .before .pre in
-    (given .0 .1 .sized, given .1 (rw (← c .before .before .evaluate .ensures, ne-eqb _ _ (c .before .if1 .left))))
+    (given .0 .1 .sized, given .1 (rw (← c .before .before .value-at .ensures, ne-eqb _ _ (c .before .if1 .left))))
 
 same-length : tie.Need-same-length
 same-length c = search needs
@@ -26,8 +26,8 @@ same-length c = search needs
 returns : tie.Need-returns
 unfolding advanced
 returns c =
-    let evaluate = c .before .before .before .before .before .evaluate in
-    rw (← evaluate .ensures, eq-eqb _ _ (c .before .before .before .before .if1 .taken)) (c .before .before .pop .ensures)
+    let value-at = c .before .before .before .before .before .value-at in
+    rw (← value-at .ensures, eq-eqb _ _ (c .before .before .before .before .if1 .taken)) (c .before .before .pop .ensures)
 
 same-length-2 : tie.Need-same-length-2
 same-length-2 c = search needs
@@ -35,15 +35,15 @@ same-length-2 c = search needs
 returns-2 : tie.Need-returns-2
 unfolding advanced
 returns-2 c =
-    let evaluate = c .before .before .before .before .before .evaluate in
-    rw (← evaluate .ensures, ne-eqb _ _ (c .before .before .before .before .if1 .left)) (c .before .before .push .ensures)
+    let value-at = c .before .before .before .before .before .value-at in
+    rw (← value-at .ensures, ne-eqb _ _ (c .before .before .before .before .if1 .left)) (c .before .before .push .ensures)
 
 pub repeat-spec : {M : Type 1} → statement M
 repeat-spec =
     tie.close
     (tie.spec
-    cast-evaluate
-    evaluate-requires
+    cast-value-at
+    value-at-requires
     pop-requires
     push-requires
     same-length

@@ -1,65 +1,49 @@
 -- `questions::fitting::leave_fits` meets its contract.
-use Rattle.process.proofs.ReadLaws.{readable, read-formed, read-built}
+use Rattle.process.proofs.ReadLaws.{read-formed, read-built}
 use Rattle.process.proofs.StatementLaws.{statement-below}
-use Rattle.rules.proofs.KindLaws.{leave-of, no-leave}
-use Rattle.rules.specs.Process.{top}
 use Rattle.rules.specs.Step.{leaveFits}
-use Rattle.rules.specs.Table.{nodes, nodeAt, statementAt}
-use Prim.Native.Nat.{_<_}
-use mathlib.Core.Path.{_≡_, sym, _∙_, ap}
+use borrow.Author.Tests.{not-true, not-false}
+use mathlib.Core.Path.{sym, _∙_}
 use borrow.Author.Needs.{needs}
 use Rattle.questions.proofs.fitting.leave_fits.Statement.{statement}
 use Rattle.questions.proofs.fitting.leave_fits.Tie as tie
 
+leave-on-top-requires : tie.Need-leave-on-top-requires
+leave-on-top-requires c κs = search needs
+
+returns : tie.Need-returns
+unfolding leaveFits
+returns c = rw (sym (c .before .leave-on-top .ensures) ∙ not-true _ (c .if1 .taken))
+
 top-requires : tie.Need-top-requires
 top-requires c κs = search needs
 
-cast-n : tie.Need-cast-n
-cast-n c = search needs
-
--- the top is a node
-below : (c : tie.After-top) → c .top .result < nodes (c .before .before .before .args .table .now)
-below c =
-    let given = c .before .before .before .pre in
-    rw (c .top .ensures) (statement-below _ (read-formed (given .0)) _ (given .2))
-
--- of the kind that was read
-kind-here : (c : tie.After-kind-at)
-    → c .kind-at .result
-    ≡ nodeAt (c .before .before .before .before .args .table .now)
-    (top (c .before .before .before .before .args .words .now)) .kind
-kind-here c =
-    c .kind-at .ensures
-    ∙ ap (λ n. nodeAt (c .before .before .before .before .args .table .now) n .kind) (c .before .top .ensures)
-
-kind-at-requires : tie.Need-kind-at-requires
-kind-at-requires c κs = readable (c .before .before .before .pre .0) (below c)
-
-returns : tie.Need-returns
-unfolding leaveFits statementAt
-returns c = rw (no-leave (nodeAt _ _) (λ e. c .if1 .taken (kind-here (c .before) ∙ e)))
+cast-nearest-loop : tie.Need-cast-nearest-loop
+cast-nearest-loop c = search needs
 
 nearest-loop-requires : tie.Need-nearest-loop-requires
-nearest-loop-requires c κs = (read-built (c .before .before .before .before .before .pre .0), below (c .before .before))
+nearest-loop-requires c κs =
+    let given = c .before .before .before .before .before .pre in
+    (read-built (given .0), rw (c .top .ensures) (statement-below _ (read-formed (given .0)) _ (given .2)))
 
 lies-below-requires : tie.Need-lies-below-requires
 lies-below-requires c κs = search needs
 
 returns-2 : tie.Need-returns-2
-unfolding leaveFits statementAt
+unfolding leaveFits
 returns-2 c =
-    let past = c .before .before .before in
-    rw (leave-of (nodeAt _ _) (sym (kind-here past) ∙ c .before .before .if1 .left), ← past .before .top .ensures)
+    let topped = c .before .before in
+    rw (sym (topped .before .before .leave-on-top .ensures) ∙ not-false _ (topped .before .if1 .left), ← topped .top .ensures)
     (rw (← c .before .nearest-loop .ensures) (c .lies-below .ensures))
 
 pub leave-fits-spec : {M : Type 1} → statement M
 leave-fits-spec =
     tie.close
     (tie.spec
-    top-requires
-    cast-n
-    kind-at-requires
+    leave-on-top-requires
     returns
+    top-requires
+    cast-nearest-loop
     nearest-loop-requires
     lies-below-requires
     returns-2)

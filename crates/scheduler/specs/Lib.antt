@@ -1,0 +1,2 @@
+-- What the contracts of this crate cite besides those below it.
+pub mod Serving
