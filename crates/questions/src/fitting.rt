@@ -143,14 +143,13 @@ pub fn leave_on_top(table: &[u8], header: Header, words: &[u32]) -> bool
     kind_at(table, header, n) == 26
 }
 
-// "A made-up stack with a leave on top and that while not below is number 23."
+// "A made-up stack with a leave on top and that while not below is number 23." Apart from the test above, which is short enough
+// to stand in the callers.
 pub fn leave_fits(table: &[u8], header: Header, words: &[u32]) -> bool
-    requires { ⌜ Read (now table) header × Stacked (now words) × (isStatement (now table) (top (now words)) ≡ true) ⌝ }
+    requires { ⌜ Read (now table) header × Stacked (now words) × (isStatement (now table) (top (now words)) ≡ true)
+        × (isLeave (statementAt (now table) (top (now words))) ≡ true) ⌝ }
     ensures { λ r. ⌜ r ≡ leaveFits (now (table .entry)) (now (words .entry)) ⌝ }
 {
-    if !leave_on_top(table, header, words) {
-        return true;
-    }
     lies_below(words, nearest_loop(table, header, top(words) as usize))
 }
 
@@ -173,6 +172,9 @@ fn record_fits(table: &[u8], header: Header, words: &[u32], roll: &[u32], p: usi
     if status == 0 {
         if !fields_zero(roll, p) {
             return false;
+        }
+        if !leave_on_top(table, header, words) {
+            return true;
         }
         return leave_fits(table, header, words);
     }

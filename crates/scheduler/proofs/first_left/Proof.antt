@@ -3,7 +3,7 @@ use Rattle.scheduler.specs.Serving.{unfitIn, MovedOn, LeftBy, Turned}
 use Rattle.table.specs.declared.Header.{Header}
 use Rattle.process.specs.Given.{Read, Stacked}
 use Rattle.rules.specs.WellFormed.{isStatement}
-use borrow.Author.Tests.{not-true}
+use borrow.Author.Tests.{not-true, not-false}
 use denote.Ref.{now}
 use Rattle.rules.specs.declared.Event.{Event}
 use Rattle.rules.specs.Process.{processAt, top}
@@ -68,7 +68,9 @@ returns c =
     fit-again (moved (found .before)) (rw (← found .process-at .ensures, none))
 
 leave-fits-requires : tie.Need-leave-fits-requires
-leave-fits-requires c κs = on-top (c .before .before)
+leave-fits-requires c κs =
+    let given = on-top (c .before .before) in
+    (given .0, given .1, given .2, sym (c .before .leave-on-top .ensures) ∙ not-false _ (c .if1 .left))
 
 returns-2 : tie.Need-returns-2
 returns-2 c =

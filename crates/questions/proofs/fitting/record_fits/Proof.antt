@@ -2,7 +2,7 @@
 use lib.ListN.{getD}
 use Rattle.questions.proofs.QuestionLaws.{record-empty, top-fits}
 use Rattle.process.specs.Given.{Stacked}
-use Rattle.rules.specs.Step.{recordFits}
+use Rattle.rules.specs.Step.{leaveFits, recordFits}
 use Rattle.rules.specs.Process.{depthAt, depth, top}
 use Rattle.rules.specs.WellFormed.{isStatement}
 use borrow.Author.Tests.{ne-eqb, eqb-false, not-true, not-false}
@@ -64,19 +64,41 @@ stacked c =
 on-top : (c : tie.Else3) → isStatement (start c .args .table .now) (top (start c .args .words .now)) ≡ true
 on-top c = top-fits _ _ (start c .pre .4) (stacked c .held)
 
-leave-fits-requires : tie.Need-leave-fits-requires
-leave-fits-requires c κs =
+leave-on-top-requires : tie.Need-leave-on-top-requires
+leave-on-top-requires c κs =
     let past = c .before .before .before in
     (start past .pre .0, stacked past, on-top past)
 
 returns-5 : tie.Need-returns-5
-unfolding recordFits depth
+unfolding recordFits depth leaveFits
 returns-5 c =
-    let chosen = c .before .before .before in
+    let fits = c .before .before .before in
+    let chosen = fits .before in
     rw (
       sym (chosen .before .before .before .before .status-at .ensures) ∙ chosen .if4 .taken,
       chosen .before .if3 .left,
-      sym (c .before .before .fields-zero2 .ensures) ∙ not-false _ (c .before .if5 .left),
+      sym (fits .fields-zero2 .ensures) ∙ not-false _ (c .before .before .if5 .left),
+      sym (c .before .leave-on-top .ensures) ∙ not-true _ (c .if6 .taken),
+    )
+
+leave-fits-requires : tie.Need-leave-fits-requires
+leave-fits-requires c κs =
+    let past = c .before .before .before .before .before in (
+      start past .pre .0,
+      stacked past,
+      on-top past,
+      sym (c .before .leave-on-top .ensures) ∙ not-false _ (c .if6 .left),
+    )
+
+returns-6 : tie.Need-returns-6
+unfolding recordFits depth
+returns-6 c =
+    let fits = c .before .before .before .before in
+    let chosen = fits .before in
+    rw (
+      sym (chosen .before .before .before .before .status-at .ensures) ∙ chosen .if4 .taken,
+      chosen .before .if3 .left,
+      sym (fits .fields-zero2 .ensures) ∙ not-false _ (c .before .before .before .if5 .left),
     )
     (c .leave-fits .ensures)
 
@@ -85,20 +107,20 @@ wait-fits-requires c κs =
     let past = c .before .before in
     (start past .pre .0, stacked past, start past .pre .3, on-top past)
 
-returns-6 : tie.Need-returns-6
-unfolding recordFits depth
-returns-6 c =
-    let status-at = c .before .before .before .before .before .before .status-at in
-    rw (sym (status-at .ensures) ∙ c .before .if6 .taken, c .before .before .before .if3 .left) (c .wait-fits .ensures)
-
 returns-7 : tie.Need-returns-7
 unfolding recordFits depth
 returns-7 c =
+    let status-at = c .before .before .before .before .before .before .status-at in
+    rw (sym (status-at .ensures) ∙ c .before .if7 .taken, c .before .before .before .if3 .left) (c .wait-fits .ensures)
+
+returns-8 : tie.Need-returns-8
+unfolding recordFits depth
+returns-8 c =
     let status-at = c .before .before .before .before .before .status-at in
     rw (
       ← status-at .ensures,
       ne-eqb _ _ (c .before .if4 .left),
-      ne-eqb _ _ (c .if6 .left),
+      ne-eqb _ _ (c .if7 .left),
       ne-eqb _ _ (c .before .before .before .if1 .left),
     )
 
@@ -114,8 +136,10 @@ record-fits-spec =
     returns-3
     fields-zero-requires-2
     returns-4
-    leave-fits-requires
+    leave-on-top-requires
     returns-5
-    wait-fits-requires
+    leave-fits-requires
     returns-6
-    returns-7)
+    wait-fits-requires
+    returns-7
+    returns-8)
