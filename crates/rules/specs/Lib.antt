@@ -1,6 +1,6 @@
 -- The definitions that a reader must believe: a file a chapter of the rules paper, in its order. "The paper" in the comments
--- is the rules paper; a quotation is the sentence that the definition stands for. Buffered is no chapter: a claim of request U3 is
--- stated by it.
+-- is the rules paper; a quotation is the sentence that the definition stands for. Two are no chapters of it: Scheduling is request
+-- U4, and by Buffered a claim of request U3 is stated.
 pub mod Choice
 pub mod Below
 pub mod Answers

@@ -1,6 +1,6 @@
 //! Turns that the machine shares: the proved library beside the model, answers and every word.
 
-use finchchaise::{Refusal, Served, MOST_PROCESSES, PROCESS_WORDS, ROLL_WORDS};
+use finchchaise::{Refusal, Served, DOORS, MOST_PROCESSES, PROCESS_WORDS, ROLL_WORDS};
 use finchchaise_compare::{damaged, start_words, table, LEAVE};
 use finchchaise_compare::{Ending, MadeUp, Random, Tally, Team};
 use finchchaise_samples::Builder;
@@ -167,4 +167,20 @@ fn serves_of_made_up_teams() {
     tally.assert_endings(&[(Ending::FullWhile, 200), (Ending::Uncovered, 500)]);
     tally.assert_endings(&[(Ending::UncoveredElsewhere, 200)]);
     tally.assert_endings(&[(Ending::AllMadeUnsound, 200)]);
+}
+
+/// More turns in one call than 16 bits can count, on a table that never ends.
+#[test]
+fn a_long_serve() {
+    const TURNS: u32 = 70_000;
+    let mut table = Builder::new(1, &[]);
+    let always = table.count();
+    let body = table.increase(0);
+    let main = table.repeat(always, body);
+    table.procedure(main, false);
+    let bytes = table.bytes();
+    let mut team = Team::new(&bytes, &[0; 2 * PROCESS_WORDS], &[0; 2 * ROLL_WORDS]);
+    team.start(2, &[0; 2 * (1 + DOORS)]).expect("a start");
+    let answer = team.serve(1, TURNS);
+    assert_eq!((answer.made, answer.last, answer.refusal), (TURNS, 1, None));
 }
