@@ -17,7 +17,6 @@ use crate::arrivals::value_of;
 use crate::arrivals::write;
 use process::evaluation::value_at;
 use process::process::pop;
-use process::process::process_at;
 use process::process::top;
 use rules::Arrival;
 use rules::Node;

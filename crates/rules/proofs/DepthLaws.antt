@@ -16,13 +16,13 @@ use Rattle.rules.specs.Evaluation.{Environment, value}
 use Rattle.rules.specs.Process.{variablePlaces, gatheredPlaces, latchPlaces, mostProcesses, latchesAt, depthAt, stackAt, stackPlaces, processWords}
 use Rattle.rules.specs.Process.{processAt, environment, depth, top, popped, replaced, pushed, advanced, needsPlace}
 use Rattle.rules.specs.Start.{startSize, startProcess}
-use Rattle.rules.specs.Step.{stackFits, leaveFits, placeLacked}
+use Rattle.rules.specs.Step.{leaveFits, placeLacked}
 use Rattle.rules.specs.Table.{variables, procedures, nodes, body, mainBody, statementAt, isLeave}
 use Rattle.rules.specs.Table.{Statement, nothing, assign, sequence, branch, loop, call, latch, collective, leave, Collective}
 use Rattle.rules.specs.WellFormed.{isStatement, openParts, nearestLoop}
-use Rattle.rules.proofs.ChoiceLaws.{bool-cases, all-true, all-false}
+use Rattle.rules.proofs.ChoiceLaws.{bool-cases, all-false}
 use Rattle.rules.proofs.EntryLaws.{Each, each-kept, each-popped, each-replaced, each-pushed}
-use Rattle.rules.proofs.EntryLaws.{set-keeps, latch-keeps, unwound-keeps}
+use Rattle.rules.proofs.EntryLaws.{set-keeps, latch-keeps, unwound-keeps, Statements}
 use Rattle.rules.proofs.Formed.{Formed, Enclosed}
 use Rattle.rules.proofs.HomeLaws.{Home, calls-body, sequence-homes, branch-homes, loop-home, call-home}
 use Rattle.rules.proofs.HomeLaws.{sequence-place, loop-place, assign-low, call-below}
@@ -119,10 +119,9 @@ module _ (table words : List ℕ) (sized : length words ≡ processWords) (place
       }
 
 -- what question 23 asks of the stack
-pub placed-fits : (table words : List ℕ) → Placed table words → stackFits table words ≡ true
-unfolding stackFits
-placed-fits table words placed =
-    all-true (λ i. isStatement table (entry words i)) (depth words) (λ i l. placed .homes i l .statement)
+pub placed-statements : (table words : List ℕ) → Placed table words → Statements table words
+placed-statements table words placed =
+    record { depth-high = placed .depth-high; entries = λ i l. placed .homes i l .statement }
 
 -- a process takes away what a collective gives, and its top goes
 pub placed-received : (table roll : List ℕ) (count : ℕ) (k : Collective) (p : ℕ) (words : List ℕ)

@@ -8,14 +8,16 @@ use native.Mathlib.Decide.{decLt}
 use native.Mathlib.Omega.{arith}
 use lib.Dec.{ltb, eqb}
 use lib.ListN.{length, set, length-set}
-use borrow.Author.Tests.{ltb-true}
+use borrow.Author.Tests.{ltb-true, le-leb}
 use Rattle.rules.specs.Evaluation.{Environment, value}
-use Rattle.rules.specs.Process.{latchPlaces, latchesAt, depthAt, stackPlaces, processWords}
+use Rattle.rules.specs.Process.{latchPlaces, latchesAt, depthAt, stackPlaces, processWords, processAt}
 use Rattle.rules.specs.Process.{depth, top, popped, replaced, pushed, unwound, advanced, needsPlace}
+use Rattle.rules.specs.Step.{stackFits, recordFits, processFits}
 use Rattle.rules.specs.Table.{body, statementAt}
 use Rattle.rules.specs.Table.{Statement, nothing, assign, sequence, branch, loop, call, latch, collective, leave}
 use Rattle.rules.specs.WellFormed.{isStatement, nearestLoop}
-use Rattle.rules.proofs.ChoiceLaws.{bool-cases}
+use Rattle.rules.proofs.AnswerLaws.{both-true}
+use Rattle.rules.proofs.ChoiceLaws.{bool-cases, all-true}
 use Rattle.rules.proofs.Formed.{Formed}
 use Rattle.rules.proofs.HomeLaws.{sequence-statements, branch-statements, loop-statement, call-below, assign-low}
 use Rattle.rules.proofs.StackLaws.{entry, popped-length, replaced-length, latched-length, set-depth, set-entry}
@@ -101,6 +103,17 @@ module _ (Q : List ℕ → Type 0)
 -- every entry is a statement: what question 23 asks of a stack
 abbrev pub Statements : List ℕ → List ℕ → Type 0
 Statements table words = Each (λ n i. isStatement table n ≡ true) words
+
+-- with a record that fits, question 23 holds of the process
+pub statements-fit : (table state roll : List ℕ) (q : ℕ) → Statements table (processAt state q)
+    → recordFits table (processAt state q) roll q ≡ true → processFits table state roll q ≡ true
+unfolding processFits stackFits
+statements-fit table state roll q all fits =
+    let words = processAt state q in
+    both-true _ _
+    (both-true _ _ (le-leb (depth words) stackPlaces (all .depth-high))
+    (all-true (λ i. isStatement table (entry words i)) (depth words) (all .entries)))
+    fits
 
 module _ (table : List ℕ) where
   abbrev sort : ℕ → ℕ → Type 0

@@ -10,55 +10,40 @@ use native.Mathlib.Omega.{arith}
 use lib.Dec.{eqb, ltb}
 use lib.ListN.{length, take, drop}
 use borrow.Author.Tests.{eq-eqb, ltb-true}
-use Rattle.rules.specs.declared.Arrival.{Arrival}
 use Rattle.rules.specs.declared.Verdict.{Verdict}
 use Rattle.rules.specs.declared.Verdict.the-variants.{Accepted, Refused as Failed}
 use Rattle.rules.specs.Answers.{refused}
-use Rattle.rules.specs.Arrivals.{running, waiting, statusAt, endedRecord, withArrival, allAtOneNode}
-use Rattle.rules.specs.Collective.{arrivalOf, releasedRoll}
-use Rattle.rules.specs.Process.{processAt, environment, depth, top, advanced}
+use Rattle.rules.specs.Arrivals.{running, waiting, statusAt, endedRecord}
+use Rattle.rules.specs.Collective.{releasedRoll}
 use Rattle.rules.specs.Run.{Team, afterTurn, afterTurns}
 use Rattle.rules.specs.Scheduling.{placeAfter, passedOver, someRuns, nextProcess, Served}
 use Rattle.rules.specs.Scheduling.{serving, chosen, chosenBy, chosenIn, RunsThrough, Occurs, Fair}
 use Rattle.rules.specs.Start.{question20, question21}
-use Rattle.rules.specs.Step.{Outcome, processesIn, question22, moved, completed, arrivedAt, stepRunning, stepTaken}
+use Rattle.rules.specs.Step.{Outcome, processesIn, question22, completed, stepRunning, stepTaken}
 use Rattle.rules.specs.Step.{teamVerdict, stepVerdict, steppedBy, stepped}
-use Rattle.rules.specs.Table.{Collective, statementAt}
 use Rattle.rules.specs.WellFormed.{wellFormed}
 use Rattle.rules.proofs.AnswerLaws.{then-first, then-rest}
 use Rattle.rules.proofs.ArrivalLaws.{with-arrival-length, each-arrival-length}
 use Rattle.rules.proofs.ChoiceLaws.{first-passed}
 use Rattle.rules.proofs.ServingLaws.{next-found, next-below, by-serving}
-use Rattle.rules.proofs.TurnCases.{on-collective, by-test}
+use Rattle.rules.proofs.TurnCases.{by-test, by-step}
 
 -- no turn changes the length of the roll, in whatever state
 module _ (table state roll : List ℕ) (count p : ℕ) where
   abbrev Keeps : Outcome → Type 0
   Keeps outcome = length (outcome .roll) ≡ length roll
 
-  moved-keeps : (words : List ℕ) → Keeps (moved state roll count p words)
-  unfolding moved
-  moved-keeps words = by-test Keeps (eqb (depth words) 0) _ _ (λ e. with-arrival-length roll p endedRecord) (λ e. refl)
-
-  arrived-keeps : (r : Arrival) (node : ℕ) (k : Collective) → Keeps (arrivedAt state (withArrival roll p r) count node k)
-  unfolding arrivedAt completed releasedRoll
-  arrived-keeps r node k =
-      by-test Keeps (allAtOneNode (withArrival roll p r) count) _ _
-      (λ e. each-arrival-length _ count (withArrival roll p r) ∙ with-arrival-length roll p r)
-      (λ e. with-arrival-length roll p r)
-
   running-keeps : Keeps (stepRunning table state roll count p)
-  unfolding stepRunning
+  unfolding completed releasedRoll
   running-keeps =
-      on-collective Keeps (statementAt table (top (processAt state p)))
-      (λ meeting. arrivedAt state
-      (withArrival roll p
-      (arrivalOf table (environment (processAt state p) p count) (top (processAt state p)) meeting))
-      count (top (processAt state p)) meeting)
-      (moved state roll count p
-      (advanced table (environment (processAt state p) p count) (processAt state p)
-      (statementAt table (top (processAt state p)))))
-      (λ k e. arrived-keeps _ _ k) (moved-keeps _)
+      by-step table count state roll p (Unit {0}) Keeps
+      (record {
+        moves = λ h n. refl;
+        finishes = λ h d. with-arrival-length roll p endedRecord;
+        arrives = λ h k e apart. with-arrival-length roll p _;
+        completes = λ h k e meets. each-arrival-length _ count _ ∙ with-arrival-length roll p _;
+      })
+      tt
 
   taken-keeps : Keeps (stepTaken table state roll count p)
   unfolding stepTaken

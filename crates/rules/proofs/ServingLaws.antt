@@ -2,7 +2,7 @@
 use mathlib.Core.Bool.{Bool, true, false, cond, not}
 use mathlib.Core.List.{List, [], _∷_}
 use mathlib.Core.Logic.{inl, inr}
-use mathlib.Core.Path.{_≡_, refl}
+use mathlib.Core.Path.{_≡_, refl, ap}
 use Prim.Native.Nat.{ℕ, zero, suc, _+_, _≤_, _<_}
 use native.Mathlib.Nat.{mod-lt, zero-add}
 use native.Mathlib.Omega.{arith}
@@ -10,23 +10,24 @@ use lib.Dec.{eqb}
 use lib.ListN.{length}
 use borrow.Author.Tests.{ltb-true, eqb-true, not-false}
 use Rattle.rules.specs.declared.Answer.{Answer}
+use Rattle.rules.specs.declared.Event.{Event}
+use Rattle.rules.specs.declared.Event.the-variants.{Moved, Finished, Arrived, Completed, Waiting, Ended}
 use Rattle.rules.specs.declared.Refusal.{Refusal}
 use Rattle.rules.specs.declared.Stepped.{Stepped}
 use Rattle.rules.specs.declared.Stepped.the-variants.{Taken, Refused}
 use Rattle.rules.specs.declared.Verdict.{Verdict}
 use Rattle.rules.specs.declared.Verdict.the-variants.{Accepted, Refused as Failed}
-use Rattle.rules.specs.Arrivals.{running, statusAt, withArrival, allAtOneNode}
-use Rattle.rules.specs.Collective.{arrivalOf}
-use Rattle.rules.specs.Process.{processAt, environment, depth, top, advanced}
+use Rattle.rules.specs.Answers.{eventNumber}
+use Rattle.rules.specs.Arrivals.{running, statusAt}
+use Rattle.rules.specs.Process.{processAt, top}
 use Rattle.rules.specs.Run.{Team, turn, afterTurn, afterTurns, answers}
 use Rattle.rules.specs.Scheduling.{placeAfter, passedOver, someRuns, nextProcess, Served, stoppedAt, ifTaken, serving}
 use Rattle.rules.specs.Scheduling.{servedBy, served, chosen, chosenBy, chosenIn, lastOf}
 use Rattle.rules.specs.Scheduling.{Worked, AllWorked, Stopped, AsSingleTurns, ServedAsSingleTurns, ServesOn}
-use Rattle.rules.specs.Step.{Outcome, processesIn, moved, completed, arrivedAt, stepRunning, stepTaken, stepVerdict}
+use Rattle.rules.specs.Step.{processesIn, completed, stepRunning, stepTaken, stepVerdict}
 use Rattle.rules.specs.Step.{teamVerdict, steppedBy, stepped}
-use Rattle.rules.specs.Table.{Collective, statementAt}
 use Rattle.rules.proofs.ChoiceLaws.{first-fails}
-use Rattle.rules.proofs.TurnCases.{on-collective, by-test}
+use Rattle.rules.proofs.TurnCases.{by-step}
 
 -- the next process, where one runs
 module _ (roll : List ℕ) (last : ℕ) (some : someRuns roll last ≡ true) where
@@ -46,36 +47,21 @@ module _ (roll : List ℕ) (last : ℕ) (some : someRuns roll last ≡ true) whe
   next-below = mod-lt _ (omega (arith, next-found))
 
 -- a turn of a running process that is taken is not idle
+busy : (event : Event) → eventNumber event < 4 → (event ≡ Waiting → ⊥) × (event ≡ Ended → ⊥)
+busy event l = ((λ e. omega (arith, ap eventNumber e)), (λ e. omega (arith, ap eventNumber e)))
+
 module _ (table state roll : List ℕ) (count p : ℕ) where
-  abbrev pub WorkedOutcome : Outcome → Type 0
-  WorkedOutcome outcome = Worked (outcome .answer)
-
-  moved-worked : (words : List ℕ) → Worked (moved state roll count p words .answer)
-  unfolding moved
-  moved-worked words =
-      by-test WorkedOutcome (eqb (depth words) 0) _ _
-      (λ e. ((λ f. let z : _≡_ {A = ℕ} 0 1 = cc in absurd (omega arith)), (λ f. let z : _≡_ {A = ℕ} 0 1 = cc in absurd (omega arith))))
-      (λ e. ((λ f. let z : _≡_ {A = ℕ} 0 1 = cc in absurd (omega arith)), (λ f. let z : _≡_ {A = ℕ} 0 1 = cc in absurd (omega arith))))
-
-  arrived-worked : (roll2 : List ℕ) (node : ℕ) (k : Collective) → Worked (arrivedAt state roll2 count node k .answer)
-  unfolding arrivedAt completed
-  arrived-worked roll2 node k =
-      by-test WorkedOutcome (allAtOneNode roll2 count) _ _
-      (λ e. ((λ f. let z : _≡_ {A = ℕ} 0 1 = cc in absurd (omega arith)), (λ f. let z : _≡_ {A = ℕ} 0 1 = cc in absurd (omega arith))))
-      (λ e. ((λ f. let z : _≡_ {A = ℕ} 0 1 = cc in absurd (omega arith)), (λ f. let z : _≡_ {A = ℕ} 0 1 = cc in absurd (omega arith))))
-
   running-worked : Worked (stepRunning table state roll count p .answer)
-  unfolding stepRunning
+  unfolding completed
   running-worked =
-      on-collective WorkedOutcome (statementAt table (top (processAt state p)))
-      (λ meeting. arrivedAt state
-      (withArrival roll p
-      (arrivalOf table (environment (processAt state p) p count) (top (processAt state p)) meeting))
-      count (top (processAt state p)) meeting)
-      (moved state roll count p
-      (advanced table (environment (processAt state p) p count) (processAt state p)
-      (statementAt table (top (processAt state p)))))
-      (λ k e. arrived-worked _ _ k) (moved-worked _)
+      by-step table count state roll p (Unit {0}) (λ outcome. Worked (outcome .answer))
+      (record {
+        moves = λ h n. busy Moved (omega arith);
+        finishes = λ h d. busy Finished (omega arith);
+        arrives = λ h k e apart. busy (Arrived (top (processAt state p))) (omega arith);
+        completes = λ h k e meets. busy (Completed (top (processAt state p))) (omega arith);
+      })
+      tt
 
   pub taken-worked : statusAt roll p ≡ running → Worked (stepTaken table state roll count p .answer)
   unfolding stepTaken
@@ -92,12 +78,12 @@ module _ (table state roll : List ℕ) (p : ℕ) (runs : statusAt roll p ≡ run
   step-worked a e = by-verdict (stepVerdict table state roll p) a e
 
   -- one that is refused has the refusal of its questions
-  by-refused : (v : Verdict) (r : Refusal) → steppedBy v table state roll p .answer ≡ Refused r → Failed r ≡ v
+  by-refused : (v : Verdict) (r : Refusal) → steppedBy v table state roll p .answer ≡ Refused r → v ≡ Failed r
   unfolding steppedBy
   by-refused Accepted r e = absurd (rw e at (taken-worked table state roll (processesIn roll) p runs))
   by-refused (Failed s) r e = cc
 
-  step-refusal : (r : Refusal) → stepped table state roll p .answer ≡ Refused r → Failed r ≡ stepVerdict table state roll p
+  step-refusal : (r : Refusal) → stepped table state roll p .answer ≡ Refused r → stepVerdict table state roll p ≡ Failed r
   unfolding stepped
   step-refusal r e = by-refused (stepVerdict table state roll p) r e
 
@@ -228,7 +214,9 @@ module _ (table : List ℕ) where
         refuses = λ turns made last team r some e.
             inr
             (inr (
+              r,
               some,
+              refl,
               step-refusal table (team .state) (team .roll) (nextProcess (team .roll) last)
                   (next-runs (team .roll) last some) r e,
             ));

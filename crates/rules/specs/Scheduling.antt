@@ -110,8 +110,8 @@ abbrev pub Stopped : List ℕ → ℕ → Served → Type 0
 Stopped table turns end =
     ((end .answer ≡ Accepted) × (end .made ≡ turns))
     ⊎ (((end .answer ≡ Accepted) × (someRuns (end .roll) (end .last) ≡ false))
-    ⊎ ((someRuns (end .roll) (end .last) ≡ true)
-    × (end .answer ≡ stepVerdict table (end .state) (end .roll) (nextProcess (end .roll) (end .last)))))
+    ⊎ ((r : Refusal) × (someRuns (end .roll) (end .last) ≡ true) × (end .answer ≡ Failed r)
+    × (stepVerdict table (end .state) (end .roll) (nextProcess (end .roll) (end .last)) ≡ Failed r)))
 
 -- 1: "state and roll are as single turns in that order leave them"
 pub record AsSingleTurns (table : List ℕ) (team : Team) (last turns : ℕ) (list : List ℕ) (end : Served) : Type 0 where

@@ -27,7 +27,7 @@ use Rattle.rules.proofs.ArrivalLaws.{RecordIs, SameRecord, with-arrival-length,
 use Rattle.rules.proofs.ArrivalLaws.{each-arrival-length}
 use Rattle.rules.proofs.ChoiceLaws.{bool-cases, first-none, all-true, all-at}
 use Rattle.rules.proofs.CollectiveLaws.{completed-length, completed-at}
-use Rattle.rules.proofs.EntryLaws.{Statements, each-kept, each-popped, statements-advanced}
+use Rattle.rules.proofs.EntryLaws.{Statements, each-kept, each-popped, statements-fit, statements-advanced}
 use Rattle.rules.proofs.Formed.{Formed, formed, statement-past}
 use Rattle.rules.proofs.HomeLaws.{stores-low}
 use Rattle.rules.proofs.Meeting.{released-is, released-apart}
@@ -35,7 +35,7 @@ use Rattle.rules.proofs.ProcessLaws.{process-length, with-process-length, with-
 use Rattle.rules.proofs.StackLaws.{entry, top-entry, advanced-length, received-length, received-depth, received-entry}
 use Rattle.rules.proofs.Standing.{Standing, runs as stands-running, waits, ends, arrival-brought, broughtRecord, standing-fits}
 use Rattle.rules.proofs.StatusLaws.{one-node-not-waiting}
-use Rattle.rules.proofs.TurnCases.{Running, nextWords, rollEnded, rollArrived, by-running}
+use Rattle.rules.proofs.TurnCases.{nextWords, rollEnded, rollArrived, by-step}
 use Rattle.table.specs.declared.Header.{Header}
 use Rattle.process.specs.Given.{Stacked}
 use Rattle.machine.specs.Outcomes.{Ready, Gives}
@@ -114,13 +114,8 @@ module _ {table : List ℕ} {header : Header} {state roll : List ℕ} {count p :
   stacked : Stacked words
   stacked = ready-stacked r runs
 
-  runs-so : Running table count state roll p
-  runs-so =
-      record {
-        below = r .within;
-        deep = stacked .held;
-        is = running-record table words roll p runs (record-fit table state roll p (r .fits p (r .within)));
-      }
+  running-is : RecordIs roll p runningRecord
+  running-is = running-record table words roll p runs (record-fit table state roll p (r .fits p (r .within)))
 
   next-sized : length next ≡ processWords
   next-sized = advanced-length table (environment words p count) words (statementAt table (top words)) ∙ stacked .sized
@@ -159,7 +154,7 @@ module _ {table : List ℕ} {header : Header} {state roll : List ℕ} {count p :
   moves-on : depth next ≢ 0 → MovedOn table moved-state roll count p
   unfolding processFits recordFits fieldsZero stackFits
   moves-on n =
-      let is = runs-so .is in
+      let is = running-is in
       let all = next-statements in
       record {
         others = others-fit roll (λ q o. record { status = refl; node = refl; value = refl; source = refl });
@@ -180,16 +175,9 @@ module _ {table : List ℕ} {header : Header} {state roll : List ℕ} {count p :
   -- all processes fit, if p does and the others' records are the same
   all-fit : (other : List ℕ) → ((q : ℕ) → q ≢ p → SameRecord other roll q) → recordFits table next other p ≡ true
       → Fit table moved-state other count
-  unfolding processFits stackFits
   all-fit other same own q l =
-      let all = next-statements in
       elim (ℕ-discrete q p) [
-        | yes e ↦
-            rw (e, at-p)
-            (both-true _ _
-            (both-true _ _ (le-leb (depth next) stackPlaces (all .depth-high))
-            (all-true (λ i. isStatement table (entry next i)) (depth next) (all .entries)))
-            own)
+        | yes e ↦ rw e (statements-fit table moved-state other p (rw at-p next-statements) (rw at-p own))
         | no n ↦ others-fit other same q l n
       ]
 
@@ -220,14 +208,12 @@ module _ {table : List ℕ} {header : Header} {state roll : List ℕ} {count p :
         with-arrival-length roll p (arrivalOf table (environment words p count) (top words) k) ∙ r .team .rolled
 
     arrives-so : Fit table state arrived-roll count
-    unfolding processFits stackFits leaveFits
+    unfolding leaveFits
     arrives-so q l =
         elim (ℕ-discrete q p) [
           | yes same ↦
               rw same
-              (both-true _ _
-              (both-true _ _ (le-leb (depth words) stackPlaces (stacked .bounded))
-              (all-true (λ i. isStatement table (entry words i)) (depth words) (statements p (r .within) .entries)))
+              (statements-fit table state arrived-roll p (statements p (r .within))
               (standing-fits table words arrived-roll count p (λ h. rw e) (waits k (stacked .held) e arrived-is)))
           | no n ↦
               fits-same table state roll arrived-roll q
@@ -269,36 +255,17 @@ module _ {table : List ℕ} {header : Header} {state roll : List ℕ} {count p :
         (bool-cases (eqb (depth (processAt met-state q)) 0))
 
     meets-so : (q : ℕ) → q < count → leaveFits table (processAt met-state q) ≡ true → processFits table met-state met-roll q ≡ true
-    unfolding processFits stackFits
     meets-so q l covered =
-        let all = met-statements q l in
-        both-true _ _
-        (both-true _ _ (le-leb (depth (processAt met-state q)) stackPlaces (all .depth-high))
-        (all-true (λ i. isStatement table (entry (processAt met-state q) i)) (depth (processAt met-state q)) (all .entries)))
+        statements-fit table met-state met-roll q (met-statements q l)
         (standing-fits table (processAt met-state q) met-roll count q (λ d. covered) (met-standing q l))
 
   pub leaves : Leaves table count p (stepTaken table state roll count p)
   unfolding completed releasedRoll
   leaves =
       rw (taken-run table state roll count p runs)
-      (by-running table count state roll p (Leaves table count p)
+      (by-step table count state roll p (Unit {0}) (Leaves table count p)
       (record {
-        lacking = λ m. absurd (omega (arith, r .within));
-        waiting = record {
-          stated = r .team .stated;
-          rolled = r .team .rolled;
-          apart = apart;
-          left = r .fits;
-          but-leaves = λ q l covered. r .fits q l;
-        };
-        ended = record {
-          stated = r .team .stated;
-          rolled = r .team .rolled;
-          apart = apart;
-          left = r .fits;
-          but-leaves = λ q l covered. r .fits q l;
-        };
-        moves = λ is n.
+        moves = λ h n.
             record {
               stated = moved-stated;
               rolled = r .team .rolled;
@@ -310,7 +277,7 @@ module _ {table : List ℕ} {header : Header} {state roll : List ℕ} {count p :
                     | no other ↦ moves-on n .others q l other
                   ];
             };
-        finishes = λ is d.
+        finishes = λ h d.
             record {
               stated = moved-stated;
               rolled = with-arrival-length roll p endedRecord ∙ r .team .rolled;
@@ -319,7 +286,7 @@ module _ {table : List ℕ} {header : Header} {state roll : List ℕ} {count p :
               left = finishes-so d;
               but-leaves = λ q l covered. finishes-so d q l;
             };
-        arrives = λ is k e parted.
+        arrives = λ h k e parted.
             record {
               stated = r .team .stated;
               rolled = arrived-rolled k e;
@@ -327,7 +294,7 @@ module _ {table : List ℕ} {header : Header} {state roll : List ℕ} {count p :
               left = arrives-so k e;
               but-leaves = λ q l covered. arrives-so k e q l;
             };
-        completes = λ is k e meets.
+        completes = λ h k e meets.
             record {
               stated = completed-length (arrived-roll k e) count k state (r .team .stated);
               rolled = each-arrival-length _ count (arrived-roll k e) ∙ arrived-rolled k e;
@@ -337,7 +304,7 @@ module _ {table : List ℕ} {header : Header} {state roll : List ℕ} {count p :
               but-leaves = meets-so k e;
             };
       })
-      runs-so)
+      tt)
 
   module _ {result : Stepped} {after rolled : List ℕ} (ran : Gives (stepRunning table state roll count p) result after rolled) where
     pub as-taken : Gives (stepTaken table state roll count p) result after rolled
