@@ -20,7 +20,7 @@
  *   state     FC_PROCESS_WORDS a process: variables, gathered words, doors, latches, the depth of its
  *             stack, stack places
  *   roll      FC_ROLL_WORDS a process: status (0 running, 1 waiting, 2 ended), node, value, source
- *   scratch   FC_SCRATCH_WORDS
+ *   scratch   FC_SCRATCH_WORDS or more
  */
 #ifndef FINCHCHAISE_H
 #define FINCHCHAISE_H
@@ -36,7 +36,7 @@ enum {
     FC_MOST_TABLE_BYTES = 1096,
     FC_MOST_PROCESSES = 16,
     FC_ROLL_WORDS = 4,
-    FC_SCRATCH_WORDS = 256
+    FC_SCRATCH_WORDS = 24
 };
 
 /* The parts of a process's words, in their order, and where each begins. Variables stand at 0. */
@@ -111,8 +111,9 @@ static inline uint32_t fc_place(uint64_t answer) { return (uint32_t)answer; }
 /*
  * The checker: 0 if the table is accepted, else the refusal (numbers 1 to 17 and 26).
  *
- * scratch needs FC_SCRATCH_WORDS; what they hold before the call plays no part. After any answer but
- * number 1 the first so many are 0. Later words, and all after number 1, are left as they were.
+ * scratch needs FC_SCRATCH_WORDS; what they hold before the call, and how many more there are, plays
+ * no part. After any answer but number 1 the first so many are 0. Later words, and all after number 1,
+ * are left as they were.
  */
 uint64_t fc_check(const uint8_t *table, size_t table_length, uint32_t *scratch,
                   size_t scratch_length);

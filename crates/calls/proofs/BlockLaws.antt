@@ -1,10 +1,10 @@
--- Question 12 of procedures that lie in blocks: a procedure's tree stays in its block, where no call names the procedure or a
--- later one.
+-- Question 12 of procedures whose bodies stand in their order: a procedure's tree lies up to its body, where no call names the procedure
+-- or a later one.
 use mathlib.Core.Bool.{true, false, or-true}
 use mathlib.Core.List.{List}
 use mathlib.Core.Logic.{⊎-elim}
 use mathlib.Core.Path.{_≡_, refl, _∙_}
-use Prim.Native.Nat.{ℕ, zero, suc, _+_, _≤_, _<_}
+use Prim.Native.Nat.{ℕ, zero, suc, _≤_, _<_}
 use native.Mathlib.Decide.{decLt}
 use native.Mathlib.Omega.{arith}
 use borrow.Author.Tests.{lt-ltb}
@@ -14,36 +14,43 @@ use Rattle.rules.specs.Table.{Statement, nothing, assign, sequence, branch, loo
 use Rattle.rules.specs.WellFormed.{inTree, calledBelow, question12}
 use Rattle.rules.proofs.AnswerLaws.{each-accepted}
 use Rattle.rules.proofs.ChoiceLaws.{bool-cases, all-true}
-use Rattle.table.specs.Uses.{Enclosed}
+use Rattle.table.specs.Uses.{CallsBelow}
 use Rattle.calls.specs.Blocks.{Blocks, none, more}
 use Rattle.calls.specs.Walk.{callsBelow, ownCalls}
 use Rattle.calls.proofs.CallLaws.{call-law}
 use Rattle.calls.proofs.TreeLaws.{Within, tree-cases}
 
--- the block of procedure q
-record Block (table : List ℕ) (q : ℕ) : Type 0 where
-  first : ℕ
-  ends : first ≤ body table q
-  encloses : (k : ℕ) → first ≤ k → k < body table q + 1 → Enclosed table k first q
-
-block-of : (table : List ℕ) {n p : ℕ} → Blocks table n p → (q : ℕ) → q < p → Block table q
-block-of table none q l = absurd (omega arith)
-block-of table (more n p earlier low block) q l =
-    elim (decLt q p) [
-      | yes under ↦ block-of table earlier q under
-      | no here ↦ let same : q ≡ p = omega arith in rw same (record { first = n; ends = low; encloses = block })
+-- what stands below node n calls below procedure p
+blocks-below : (table : List ℕ) {n p : ℕ} → Blocks table n p → (k : ℕ) → k < n → CallsBelow table k p
+blocks-below table none k l q s = absurd (omega arith)
+blocks-below table (more n p earlier low block) k l q s =
+    elim (decLt k n) [
+      | yes under ↦ omega (arith, blocks-below table earlier k under q s)
+      | no here ↦ omega (arith, block k (omega arith) l q s)
     ]
 
--- the tree of a node of the block stays in the block
-stays : (table : List ℕ) (q : ℕ) (b : Block table q) (d m k : ℕ) → m < d → b .first ≤ m → m < body table q + 1
-    → inTree table k m ≡ true → (b .first ≤ k) × (k < body table q + 1)
-stays table q b zero m k under low high h = absurd (omega arith)
-stays table q b (suc d) m k under low high h =
+-- and so does what stands up to the body of an earlier procedure, below that one
+body-below : (table : List ℕ) {n p : ℕ} → Blocks table n p → (r : ℕ) → r < p → (k : ℕ) → k ≤ body table r → CallsBelow table k r
+body-below table none r l k high = absurd (omega arith)
+body-below table (more n p earlier low block) r l k high =
+    elim (decLt r p) [
+      | yes under ↦ body-below table earlier r under k high
+      | no here ↦
+          let same : r ≡ p = omega arith in
+          rw same
+          (elim (decLt k n) [
+            | yes earlier-block ↦ blocks-below table earlier k earlier-block
+            | no inside ↦ block k (omega arith) (let at : k ≤ body table p = rw same at high in omega arith)
+          ])
+    ]
+
+-- a tree lies below its root
+tree-low : (table : List ℕ) (d m k : ℕ) → m < d → inTree table k m ≡ true → k ≤ m
+tree-low table zero m k under h = absurd (omega arith)
+tree-low table (suc d) m k under h =
     ⊎-elim
-    (λ (same : k ≡ m). (omega arith, omega arith))
-    (λ (w : Within table k m).
-    stays table q b d (w .part) k (omega (arith, w .lower)) (b .encloses m low high .parts (w .part) (w .stands))
-    (omega (arith, w .lower)) (w .holds))
+    (λ (same : k ≡ m). omega arith)
+    (λ (w : Within table k m). omega (arith, w .lower, tree-low table d (w .part) k (omega (arith, w .lower)) (w .holds)))
     (tree-cases table k m h)
 
 calls-so : (p : ℕ) (s : Statement) → ((q : ℕ) → s ≡ call q → q < p) → callsBelow p s ≡ true
@@ -58,19 +65,19 @@ calls-so p (latch a b) h = refl
 calls-so p (collective k) h = refl
 calls-so p leave h = refl
 
-own : (table : List ℕ) (q k : ℕ) → Block table q → ownCalls table q k ≡ true
+own : (table : List ℕ) {n p : ℕ} → Blocks table n p → (r k : ℕ) → r < p → ownCalls table r k ≡ true
 unfolding ownCalls
-own table q k b =
+own table blocks r k l =
     ⊎-elim
-    (λ (h : inTree table k (body table q) ≡ true).
-    let here = stays table q b (suc (body table q)) (body table q) k (omega arith) (b .ends) (omega arith) h in
-    simp (calls-so q (statementAt table k) (b .encloses k (here .0) (here .1) .calls), or-true))
-    (λ (h : inTree table k (body table q) ≡ false). simp h)
-    (bool-cases (inTree table k (body table q)))
+    (λ (h : inTree table k (body table r) ≡ true).
+    let low = tree-low table (suc (body table r)) (body table r) k (omega arith) h in
+    simp (calls-so r (statementAt table k) (body-below table blocks r l k low), or-true))
+    (λ (h : inTree table k (body table r) ≡ false). simp h)
+    (bool-cases (inTree table k (body table r)))
 
 pub blocks-called : (table : List ℕ) (n : ℕ) → Blocks table n (procedures table) → question12 table ≡ Accepted
 blocks-called table n blocks =
     each-accepted 12 (nodes table) (λ k. calledBelow table k (statementAt table k))
     (λ k l.
     call-law table k
-    ∙ all-true (λ q. ownCalls table q k) (procedures table) (λ q m. own table q k (block-of table blocks q m)))
+    ∙ all-true (λ q. ownCalls table q k) (procedures table) (λ q m. own table blocks q k m))

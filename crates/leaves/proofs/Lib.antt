@@ -1,6 +1,5 @@
 -- Laws of the leaves.
-pub mod LeftLaws
-pub mod LeaveSteps
-pub mod KindLaws
+pub mod HeldLaws
+pub mod PassLaws
 pub mod LooseLaws
 pub mod RuleLaws

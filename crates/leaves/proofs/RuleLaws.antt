@@ -1,31 +1,18 @@
--- Before the first node; and the refusal by a node's rule from its two parts.
+-- The refusal by a node's rule from its two parts.
 use mathlib.Core.Bool.{Bool, true, false, not, _&&_, _||_}
 use mathlib.Core.List.{List}
-use mathlib.Core.Path.{_≡_, refl}
+use mathlib.Core.Path.{_≡_}
 use Prim.Native.Nat.{ℕ, _≤_, _<_, min}
 use native.Mathlib.Decide.{ℕ-discrete}
 use native.Mathlib.Omega.{arith}
-use lib.Dec.{eqb}
-use lib.ListN.{replicate, length-replicate}
 use borrow.Author.Tests.{eq-eqb, ne-eqb}
 use Rattle.rules.specs.Acceptance.{ruleOf}
 use Rattle.rules.specs.Judgement.{single, effect, leftLocally}
 use Rattle.rules.specs.Table.{nodeAt, statementAt}
 use Rattle.rules.proofs.KindLaws.{loop-of}
-use Rattle.table.proofs.BitLaws.{bit-zero}
 use Rattle.visit.specs.Facts.{ruleCode, guardCode}
-use Rattle.visit.specs.Fields.{planeWords}
-use Rattle.visit.specs.Least.{none, code, failure}
-use Rattle.leaves.specs.Leaves.{LeavesTo, leftCode}
-
-pub leaves-none : (table : List ℕ) (judged : Bool) → LeavesTo table judged 0 (replicate planeWords 0)
-leaves-none table judged =
-    record {
-      size = length-replicate {A = ℕ} planeWords 0;
-      clear = λ k h l. bit-zero planeWords k;
-      held = λ k l. absurd (omega arith);
-      left = λ strictly k l. absurd (omega arith);
-    }
+use Rattle.visit.specs.Least.{none, failure}
+use Rattle.leaves.specs.Leaves.{leftCode}
 
 -- condition single and not left locally, or no effect: each of the two, or no effect
 both-parts : (n : ℕ) → n < 65536 → (s l e : Bool)
@@ -38,7 +25,7 @@ both-parts n few false true false = omega arith
 both-parts n few false false true = omega arith
 both-parts n few false false false = omega arith
 
-pub rule-whole : (table : List ℕ) (n : ℕ) → n < 65536 → guardCode table n ≤ none
+pub rule-whole : (table : List ℕ) (n : ℕ) → n < 65536 → ruleCode table n ≤ none
     → min (guardCode table n) (leftCode table n) ≡ ruleCode table n
 unfolding guardCode leftCode
 rule-whole table n few high =
@@ -48,9 +35,7 @@ rule-whole table n few high =
           rw (at-loop e)
           (simp (eq-eqb (m .kind) 20 e)
           (both-parts n few (single table (m .a)) (leftLocally table (m .b)) (effect table (m .b))))
-      | no other ↦
-          let low : ruleCode table n ≤ none = simp (ne-eqb (m .kind) 20 other) at high in
-          simp (ne-eqb (m .kind) 20 other) (omega arith)
+      | no other ↦ simp (ne-eqb (m .kind) 20 other) (omega arith)
     ]
   where
     at-loop : nodeAt table n .kind ≡ 20

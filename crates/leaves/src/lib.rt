@@ -1,26 +1,33 @@
-// The leaves of a table, a bit a node: question 26, and question 16 of a while that is left locally. Which two facts a bit serves,
-// one after the other: specs/Leaves.antt.
-ghost use mathlib.Core.Bool.{true, false, cond, _&&_, _||_};
+// The leaves of a table that passes 2 to 12, in a pass of their own over the nodes, which a table without leaves does not need: question
+// 26, and question 16 of a while that is left locally. A bit a node says whether it holds a leave; another, in the plane that 11 and 12
+// need no more, whether it is left locally.
+ghost use mathlib.Core.Bool.{cond, _&&_, _||_};
 ghost use mathlib.Core.Path.{_≡_};
-ghost use Prim.Native.Nat.{_%_, _<_};
-ghost use lib.ListN.{length};
-ghost use Rattle.leaves.specs.Leaves.{leftBit, keptAt, passedOn, Kept};
+ghost use Prim.Native.Nat.{_%_, _<_, _≤_};
+ghost use lib.Dec.{eqb};
+ghost use lib.ListN.{length, getD, replicate};
+ghost use Rattle.leaves.specs.Leaves.{leftPlane, eitherBit, Joined, NodePassed, LeavesPassed};
+ghost use Rattle.loops.specs.Built.{Built};
+ghost use Rattle.rules.specs.Choice.{allBelow};
 ghost use Rattle.rules.specs.Table.{nodes};
-ghost use Rattle.table.specs.Header.{headerOf};
-ghost use Rattle.table.specs.Marks.{bitAt, withBit, withoutBit};
-ghost use Rattle.table.specs.Sized.{Sized};
+ghost use Rattle.table.specs.Marks.{bitAt, withBit};
+ghost use Rattle.visit.specs.Facts.{NotedTo};
 ghost use Rattle.visit.specs.Fields.{factsPlane, leavesPlane, allPlanes, planeWords};
 ghost use Rattle.visit.specs.Least.{none, code};
+use table::Header;
+use table::marks::clear;
 use table::marks::mark;
 use table::marks::marked;
-use table::marks::unmark;
-use table::words::header;
+use table::words::kind_at;
 use table::words::node_at;
 use visit::LEAVES;
+use visit::PLANE;
 use visit::PLANES;
 use visit::facts::fact;
 use visit::least::NONE;
+use visit::least::lesser;
 use visit::least::worse;
+use visit::noted::note_leave;
 
 pub mod loose; // loose.rt: question 26
 
@@ -31,9 +38,16 @@ pub(crate) fn holds(planes: &[u32], n: u32) -> bool
     marked(&planes[LEAVES..PLANES], (n % 256) as usize)
 }
 
+fn is_left(planes: &[u32], n: u32) -> bool
+    requires { ⌜ length (now planes) ≡ allPlanes ⌝ }
+    ensures { λ r. ⌜ r ≡ bitAt (leftPlane (now (planes .entry))) (n % 256) ⌝ }
+{
+    marked(&planes[0..PLANE], (n % 256) as usize)
+}
+
 fn either_holds(planes: &[u32], x: u32, y: u32) -> bool
     requires { ⌜ length (now planes) ≡ allPlanes ⌝ }
-    ensures { λ r. ⌜ r ≡ (bitAt (leavesPlane (now (planes .entry))) (x % 256) || bitAt (leavesPlane (now (planes .entry))) (y % 256)) ⌝ }
+    ensures { λ r. ⌜ r ≡ eitherBit (leavesPlane (now (planes .entry))) x y ⌝ }
 {
     if holds(planes, x) {
         return true;
@@ -41,122 +55,134 @@ fn either_holds(planes: &[u32], x: u32, y: u32) -> bool
     holds(planes, y)
 }
 
-// Whether node n is left locally, as long as no node names it. Leaves are few: the header is read again only where there is one,
-// so that a visit need not hand it on.
-fn left(table: &[u8], planes: &[u32], n: u32) -> bool
-    requires { ⌜ Sized (now table) (headerOf (now table)) × (length (now planes) ≡ allPlanes) ⌝ }
-    ensures { λ r. ⌜ (n < nodes (now (table .entry)) → r ≡ leftBit (now (table .entry)) (leavesPlane (now (planes .entry))) n) ⌝ }
+fn both(s: bool, t: bool) -> bool
+    ensures { λ r. ⌜ r ≡ (s && t) ⌝ }
 {
-    if !holds(planes, n) {
-        return false;
+    if s {
+        return t;
     }
-    let head = header(table);
-    if head.nodes <= n as usize {
-        return false;
-    }
-    let node = node_at(table, head, n as usize);
-    if node.kind == 26 {
-        return false;
-    }
-    holds(planes, node.b)
+    false
 }
 
-fn either_left(table: &[u8], planes: &[u32], local: bool, x: u32, y: u32) -> bool
-    requires { ⌜ Sized (now table) (headerOf (now table)) × (length (now planes) ≡ allPlanes) ⌝ }
-    ensures { λ r. ⌜ (x < nodes (now (table .entry)) → y < nodes (now (table .entry)) → r ≡ (local
-        || (leftBit (now (table .entry)) (leavesPlane (now (planes .entry))) x
-        || leftBit (now (table .entry)) (leavesPlane (now (planes .entry))) y))) ⌝ }
+// Whether a node with parts x and y is left locally, or one of them is.
+fn left_by(planes: &[u32], here: bool, x: u32, y: u32) -> bool
+    requires { ⌜ length (now planes) ≡ allPlanes ⌝ }
+    ensures { λ r. ⌜ r ≡ (here || eitherBit (leftPlane (now (planes .entry))) x y) ⌝ }
 {
-    if local {
+    if here {
         return true;
     }
-    if left(table, planes, x) {
+    if is_left(planes, x) {
         return true;
     }
-    left(table, planes, y)
+    is_left(planes, y)
 }
 
-fn put(leaves: &mut [u32], b: usize, left: bool)
-    requires { ⌜ (b < 256) × (length (now leaves) ≡ planeWords) ⌝ }
-    ensures { λ _. ⌜ now (leaves .exit) ≡ cond left (withBit (now (leaves .entry)) b) (withoutBit (now (leaves .entry)) b) ⌝ }
+fn mark_if(marks: &mut [u32], n: usize, bit: bool)
+    requires { ⌜ (n < 256) × (length (now marks) ≡ planeWords) ⌝ }
+    ensures { λ _. ⌜ now (marks .exit) ≡ cond bit (withBit (now (marks .entry)) n) (now (marks .entry)) ⌝ }
 {
-    if left {
-        mark(leaves, b);
-    } else {
-        unmark(leaves, b);
+    if bit {
+        mark(marks, n);
     }
 }
 
-fn keep(leaves: &mut [u32], b: usize, n: usize, left: bool)
-    requires { ⌜ (b < 256) × (n < 256) × (length (now leaves) ≡ planeWords) ⌝ }
-    ensures { λ _. ⌜ now (leaves .exit) ≡ keptAt (now (leaves .entry)) b n left ⌝ }
-{
-    put(leaves, b, left);
-    mark(leaves, n);
-}
-
-// Node n, with part B b, holds a leave, as its part x or y does that stands in the same while.
-fn hold(table: &[u8], planes: &mut [u32], n: usize, b: u32, local: bool, x: u32, y: u32)
-    requires { ⌜ Sized (now table) (headerOf (now table)) × (n < nodes (now table)) × (length (now planes) ≡ allPlanes) ⌝ }
-    ensures { λ _. ⌜ Kept true (now (planes .entry)) (now (planes .exit)) ⌝ }
-    ensures { λ _. ⌜ (x < nodes (now (table .entry)) → y < nodes (now (table .entry)) → leavesPlane (now (planes .exit))
-        ≡ keptAt (leavesPlane (now (planes .entry))) (b % 256) n
-        (local || (leftBit (now (table .entry)) (leavesPlane (now (planes .entry))) x
-        || leftBit (now (table .entry)) (leavesPlane (now (planes .entry))) y))) ⌝ }
-{
-    let left = either_left(table, planes, local, x, y);
-    keep(&mut planes[LEAVES..PLANES], (b % 256) as usize, n, left);
-}
-
-// Where the fields of node n are used, it holds a leave where its part x or y does.
-pub fn pass_on(
-    used: bool,
-    table: &[u8],
-    planes: &mut [u32],
-    n: usize,
-    b: u32,
-    local: bool,
-    x: u32,
-    y: u32,
-)
-    requires { ⌜ Sized (now table) (headerOf (now table)) × (n < nodes (now table)) × (length (now planes) ≡ allPlanes) ⌝ }
-    ensures { λ _. ⌜ Kept used (now (planes .entry)) (now (planes .exit)) ⌝ }
-    ensures { λ _. ⌜ (used ≡ true → x < nodes (now (table .entry)) → y < nodes (now (table .entry)) → leavesPlane (now (planes .exit))
-        ≡ passedOn (now (table .entry)) (leavesPlane (now (planes .entry))) n b local x y) ⌝ }
-{
-    if used {
-        if either_holds(planes, x, y) {
-            hold(table, planes, n, b, local, x, y);
-        }
-    }
-}
-
-// The same of a leave.
-pub fn note_leave(used: bool, planes: &mut [u32], n: usize)
+// Node n, which stands in the same while as its parts x and y; `local` says that it takes one of them by an own condition.
+fn join(planes: &mut [u32], n: usize, local: bool, x: u32, y: u32)
     requires { ⌜ (n < 256) × (length (now planes) ≡ allPlanes) ⌝ }
-    ensures { λ _. ⌜ Kept used (now (planes .entry)) (now (planes .exit)) ⌝ }
-    ensures { λ _. ⌜ (used ≡ true → leavesPlane (now (planes .exit)) ≡ withBit (leavesPlane (now (planes .entry))) n) ⌝ }
+    ensures { λ _. ⌜ Joined n local x y (now (planes .entry)) (now (planes .exit)) ⌝ }
 {
-    if used {
-        mark(&mut planes[LEAVES..PLANES], n);
-    }
+    let held = either_holds(planes, x, y);
+    let left = left_by(planes, both(local, held), x, y);
+    mark_if(&mut planes[LEAVES..PLANES], n, held);
+    mark_if(&mut planes[0..PLANE], n, left);
 }
 
 // Question 16 of while n with body b, where it is left locally.
-pub fn left_by_leave(used: bool, table: &[u8], planes: &[u32], n: usize, b: u32) -> usize
-    requires { ⌜ Sized (now table) (headerOf (now table)) × (n < nodes (now table)) × (length (now planes) ≡ allPlanes) ⌝ }
-    ensures { λ r. ⌜ (used ≡ true → b < nodes (now (table .entry)) → r ≡ cond (leftBit (now (table .entry)) (leavesPlane (now (planes .entry))) b
-        && bitAt (factsPlane (now (planes .entry))) (b % 256)) (code 16 n) none) ⌝ }
-    ensures { λ r. ⌜ (used ≡ false → r ≡ none) × (0 < r) ⌝ }
+fn left_by_leave(planes: &[u32], n: usize, b: u32) -> usize
+    requires { ⌜ (n < 256) × (length (now planes) ≡ allPlanes) ⌝ }
+    ensures { λ r. ⌜ r ≡ cond (bitAt (leftPlane (now (planes .entry))) (b % 256) && bitAt (factsPlane (now (planes .entry))) (b % 256))
+        (code 16 n) none ⌝ }
 {
-    if !used {
-        return NONE;
-    }
-    if !left(table, planes, b) {
+    if !is_left(planes, b) {
         return NONE;
     }
     if !fact(planes, b) {
         return NONE;
     }
     worse(NONE, 16, n)
+}
+
+fn pass_node(table: &[u8], header: Header, planes: &mut [u32], n: usize) -> usize
+    requires { ⌜ Built (now table) header × (n < nodes (now table)) × (length (now planes) ≡ allPlanes) ⌝ }
+    ensures { λ r. ⌜ NodePassed (now (table .entry)) n (now (planes .entry)) (now (planes .exit)) r ⌝ }
+{
+    let kind = kind_at(table, header, n);
+    match kind {
+        18 => {
+            let node = node_at(table, header, n);
+            join(planes, n, false, node.a, node.b);
+            NONE
+        }
+        19 => {
+            let node = node_at(table, header, n);
+            let local = fact(planes, node.a);
+            join(planes, n, local, node.b, node.c);
+            NONE
+        }
+        20 => {
+            let node = node_at(table, header, n);
+            left_by_leave(planes, n, node.b)
+        }
+        26 => {
+            note_leave(true, planes, n);
+            NONE
+        }
+        _ => NONE,
+    }
+}
+
+fn pass_nodes(table: &[u8], header: Header, planes: &mut [u32], rule: usize) -> usize
+    requires { ⌜ Built (now table) header × (rule ≤ none) × (length (now planes) ≡ allPlanes) ⌝ }
+    requires { ⌜ (leftPlane (now planes) ≡ replicate planeWords 0) × (leavesPlane (now planes) ≡ replicate planeWords 0) ⌝ }
+    ensures { λ r. ⌜ LeavesPassed (now (table .entry)) rule (now (planes .entry)) (now (planes .exit)) r ⌝ }
+{
+    let count = header.nodes;
+    let mut least = rule;
+    let mut n = 0;
+    while n < count {
+        let found = pass_node(table, header, planes, n);
+        least = lesser(least, found);
+        n += 1;
+    }
+    least
+}
+
+fn none_marked(marks: &[u32]) -> bool
+    requires { ⌜ length (now marks) ≡ planeWords ⌝ }
+    ensures { λ r. ⌜ r ≡ allBelow (λ i. eqb (getD (now (marks .entry)) i 0) 0) (length (now (marks .entry))) ⌝ }
+{
+    let count = marks.len();
+    let mut i = 0;
+    while i < count {
+        if marks[i] != 0 {
+            return false;
+        }
+        i += 1;
+    }
+    true
+}
+
+// The least refusal once 16 is asked of whiles that are left locally; which nodes hold a leave is kept.
+pub fn pass_leaves(table: &[u8], header: Header, planes: &mut [u32], rule: usize) -> usize
+    requires { ⌜ Built (now table) header × (rule ≤ none) × (length (now planes) ≡ allPlanes) ⌝ }
+    requires { ⌜ NotedTo (now table) (nodes (now table)) (leavesPlane (now planes)) ⌝ }
+    ensures { λ r. ⌜ LeavesPassed (now (table .entry)) rule (now (planes .entry)) (now (planes .exit)) r ⌝ }
+{
+    if none_marked(&planes[LEAVES..PLANES]) {
+        return rule;
+    }
+    clear(&mut planes[0..PLANE]);
+    clear(&mut planes[LEAVES..PLANES]);
+    pass_nodes(table, header, planes, rule)
 }

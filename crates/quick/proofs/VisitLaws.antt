@@ -1,119 +1,47 @@
--- A visit from its two parts: the fields that were taken, and the fact and the rule that were settled.
-use mathlib.Core.Bool.{Bool, true, false, _||_, and-false}
+-- A visit from its parts: the fields that were taken, the leave that was noted, and the fact and the rule that were settled.
+use mathlib.Core.Bool.{Bool, true, false, cond, and-false}
 use mathlib.Core.Logic.{_⊎_, inl, inr, ⊎-elim}
 use mathlib.Core.List.{List}
-use mathlib.Core.Path.{_≡_, refl, sym, _∙_, subst}
-use Prim.Native.Nat.{ℕ, _+_, _≤_, _<_, min}
+use mathlib.Core.Path.{_≡_, refl, sym, _∙_}
+use Prim.Native.Nat.{ℕ, _+_, _≤_, _<_}
 use native.Mathlib.Decide.{decLt, ℕ-discrete}
 use native.Mathlib.Omega.{arith}
 use lib.Dec.{ltb, eqb}
 use lib.ListN.{length}
-use borrow.Author.Tests.{ltb-true, lt-leb}
+use borrow.Author.Tests.{ltb-true, lt-leb, eq-eqb, eqb-false, ne-eqb}
 use Rattle.rules.specs.declared.Node.{Node}
 use Rattle.rules.specs.Table.{procedures, nodes, nodeAt}
 use Rattle.rules.specs.WellFormed.{nodeFits, kindKnown}
-use Rattle.table.specs.declared.Header.{Header}
-use Rattle.table.specs.Header.{headerOf}
+use Rattle.table.specs.Marks.{withBit}
 use Rattle.table.specs.Roles.{fieldFits}
 use Rattle.table.specs.Sized.{Sized}
-use Rattle.table.proofs.TestLaws.{never}
 use Rattle.visit.specs.declared.Visit.{Visit}
-use Rattle.visit.specs.Facts.{ruleCode, guardCode, FactsTo, Settled}
-use Rattle.visit.specs.Fields.{usedPlane, factsPlane, leavesPlane, allPlanes, Fields}
-use Rattle.visit.specs.Least.{none}
+use Rattle.visit.specs.Facts.{FactsTo, Settled}
+use Rattle.visit.specs.Fields.{usedPlane, factsPlane, leavesPlane, allPlanes, Fields, Kept}
 use Rattle.visit.specs.Quick.{Quick}
-use Rattle.leaves.specs.Leaves.{Kept, Left, leftCode}
-use Rattle.leaves.proofs.KindLaws.{left-other}
-use Rattle.leaves.proofs.LeftLaws.{kept-none}
-use Rattle.leaves.proofs.RuleLaws.{rule-whole}
 use Rattle.quick.specs.Visited.{Visited}
-use Rattle.visit.proofs.PlaneLaws.{used-length}
-use Rattle.visit.proofs.QuickLaws.{Named, knownKind, three, free-fits, quickly, enclosed-by}
-use Rattle.visit.proofs.SettledLaws.{Judges, settled-high, settled-used, settled-unused, settled-judged}
+use Rattle.visit.proofs.FactLaws.{plane-more}
+use Rattle.visit.proofs.PlaneLaws.{used-length, kept-none}
+use Rattle.visit.proofs.QuickLaws.{Named, knownKind, three, free-fits, quickly, calls-below}
+use Rattle.visit.proofs.SettledLaws.{Judges, settled-used, settled-unused, settled-judged}
 use Rattle.visit.proofs.StuckLaws.{stuck-by, stuck-kind}
 
--- kinds whose leaves are not looked at
-abbrev Shut : ℕ → Type 0
-Shut k = (k ≡ 18 → ⊥) × (k ≡ 19 → ⊥) × (k ≡ 20 → ⊥) × (k ≡ 26 → ⊥)
+-- a number that is no leave's, as each arm has it
+pub other-as : {kind : ℕ} (k : ℕ) → eqb k 26 ≡ false → kind ≡ k → kind ≡ 26 → ⊥
+other-as k none e leave = eqb-false k 26 none (sym e ∙ leave)
 
--- a number that is none of them, as each arm has it
-pub shut-as : {kind : ℕ} (k : ℕ) → (eqb k 18 || (eqb k 19 || (eqb k 20 || eqb k 26))) ≡ false → kind ≡ k → Shut kind
-shut-as {kind} k none e =
-    let other : (j : ℕ) → (eqb j 18 || (eqb j 19 || (eqb j 20 || eqb j 26))) ≡ true → kind ≡ j → ⊥ =
-    λ j some h. let same : j ≡ k = sym h ∙ e in never (sym (rw same at some) ∙ none) in
-    (other 18 refl, other 19 refl, other 20 refl, other 26 refl)
+pub other-either : {kind : ℕ} (j k : ℕ) → eqb j 26 ≡ false → eqb k 26 ≡ false → (kind ≡ j) ⊎ (kind ≡ k) → kind ≡ 26 → ⊥
+other-either j k first second = ⊎-elim (other-as j first) (other-as k second)
 
-pub shut-either : {kind : ℕ} (j k : ℕ) → (eqb j 18 || (eqb j 19 || (eqb j 20 || eqb j 26))) ≡ false
-    → (eqb k 18 || (eqb k 19 || (eqb k 20 || eqb k 26))) ≡ false → (kind ≡ j) ⊎ (kind ≡ k) → Shut kind
-shut-either j k first second = ⊎-elim (shut-as j first) (shut-as k second)
-
-pub shut-below : {kind : ℕ} → kind < 13 → Shut kind
-shut-below low = (λ e. omega arith, λ e. omega arith, λ e. omega arith, λ e. omega arith)
-
--- what the leaves are given of a table
-pub read-again : {table : List ℕ} {header : Header} {n : ℕ} → Sized table header → n < header .nodes
-    → Sized table (headerOf table) × (n < nodes table)
-read-again {table} sized low = (subst (Sized table) (sized .read) sized, omega (arith, sized .nodes-read))
+pub other-below : {kind : ℕ} → kind < 13 → kind ≡ 26 → ⊥
+other-below low leave = omega arith
 
 module _ (table : List ℕ) (v : Visit) (sized : Sized table (v .header)) (low : v .node < v .header .nodes) where
   abbrev n : ℕ
   n = v .node
 
-  -- an arm of the match, by the roles of its kind, by what judges it, and by what is kept of its leaves
-  pub arm : (m : Node) (roles source question guard found left r : ℕ) (before now between after : List ℕ) (used : Bool)
-      → m ≡ nodeAt table n
-      → Named (m .kind) roles
-      → (n < nodes table → nodeFits table n ≡ true → FactsTo table n (factsPlane before)
-      → Judges table n (factsPlane before) source question guard)
-      → length before ≡ allPlanes
-      → Fields table v m roles before now used
-      → Kept used now between
-      → Settled table v m used source question guard between after found
-      → question < 17
-      → (used ≡ true → Left table v (factsPlane now) (leavesPlane now) (leavesPlane between) left)
-      → (used ≡ false → left ≡ none) × (0 < left)
-      → r ≡ min found left
-      → Visited table v before after r
-  arm m roles source question guard found left r before now between after used here named judges size f k s asked leaves kept
-      least =
-      let inside : n < nodes table = omega (arith, sized .nodes-read) in
-      let few : n < 256 = omega (arith, inside, sized .nodes-high) in
-      let high : found ≤ none = settled-high table v m used source question guard between after found s asked few in
-      let some : (r ≡ 0 → ⊥) → found ≡ 0 → ⊥ = λ h e. h (omega (arith, least)) in
-      let none-found : r ≡ 0 → found ≡ 0 = λ e. omega (arith, least, kept .1) in
-      let free : (r ≡ 0 → ⊥) → used ≡ true =
-      λ h. settled-used table v m used source question guard between after found s (some h) in
-      let idle : r ≡ 0 → used ≡ false =
-      λ e. settled-unused table v m used source question guard between after found s (none-found e) in
-      let facts-same : factsPlane between ≡ factsPlane before = k .facts ∙ f .facts in
-      let taken : (r ≡ 0 → ⊥) → Quick table n (usedPlane before) (usedPlane now) =
-      λ h. quickly table v m here roles named (usedPlane before) (f .taken (free h)) in
-      let judged : (r ≡ 0 → ⊥) → v .judged ≡ true → FactsTo table n (factsPlane before)
-      → FactsTo table (n + 1) (factsPlane after) × (found ≡ guardCode table n) =
-      λ h strictly known.
-      settled-judged table v m used source question guard between after found s here (free h) strictly few
-      (rw facts-same known) (rw facts-same (judges inside (taken h .fits) known)) in
-      record {
-        size = s .size;
-        same = λ e. s .same (idle e) ∙ k .same (idle e) ∙ f .same (idle e);
-        stuck = λ e bound all best high.
-            stuck-by table v m here roles named (usedPlane before) (used-length before size) few bound all best high
-            (sym (f .answer) ∙ idle e);
-        taken = λ h. rw (s .marks ∙ k .marks) (taken h);
-        enclosed = λ h. enclosed-by table v m here roles named (usedPlane before) (sym (f .answer) ∙ free h);
-        facts = λ h strictly known. judged h strictly known .0;
-        more = λ h built known facts.
-            let next = leaves (free h) built (rw (f .leaves) known) (λ strictly. rw (f .facts) (facts strictly)) in (
-              rw (s .leaves) (next .0),
-              λ strictly.
-                  least
-                  ∙ rw (judged h strictly (facts strictly) .1, next .1 strictly)
-                  (rule-whole table n (omega arith) (rw (judged h strictly (facts strictly) .1) at high)),
-            );
-      }
-
-  -- one whose leaves give no refusal
-  pub noted-arm : (m : Node) (roles source question guard r : ℕ) (before now between after : List ℕ) (used : Bool)
+  -- an arm of the match, by the roles of its kind, by what judges it, and by the leave that is noted
+  arm : (m : Node) (roles source question guard r : ℕ) (before now between after : List ℕ) (used : Bool)
       → m ≡ nodeAt table n
       → Named (m .kind) roles
       → (n < nodes table → nodeFits table n ≡ true → FactsTo table n (factsPlane before)
@@ -122,16 +50,52 @@ module _ (table : List ℕ) (v : Visit) (sized : Sized table (v .header)) (low :
       → Fields table v m roles before now used
       → Kept used now between
       → Settled table v m used source question guard between after r
-      → question < 17
-      → (used ≡ true → Left table v (factsPlane now) (leavesPlane now) (leavesPlane between) none)
+      → (used ≡ true → leavesPlane between ≡ cond (eqb (m .kind) 26) (withBit (leavesPlane now) n) (leavesPlane now))
       → Visited table v before after r
-  noted-arm m roles source question guard r before now between after used here named judges size f k s asked leaves =
-      let few : n < 256 = omega (arith, sized .nodes-read, sized .nodes-high) in
-      let high : r ≤ none = settled-high table v m used source question guard between after r s asked few in
-      arm m roles source question guard r none r before now between after used here named judges size f k s asked leaves
-      (λ e. refl, omega arith) (omega arith)
+  arm m roles source question guard r before now between after used here named judges size f k s noted =
+      let inside : n < nodes table = omega (arith, sized .nodes-read) in
+      let few : n < 256 = omega (arith, inside, sized .nodes-high) in
+      let free : (r ≡ 0 → ⊥) → used ≡ true =
+      λ h. settled-used table v m used source question guard between after r s h in
+      let idle : r ≡ 0 → used ≡ false =
+      λ e. settled-unused table v m used source question guard between after r s e in
+      let facts-same : factsPlane between ≡ factsPlane before = k .facts ∙ f .facts in
+      let taken : (r ≡ 0 → ⊥) → Quick table n (usedPlane before) (usedPlane now) =
+      λ h. quickly table v m here roles named (usedPlane before) (f .taken (free h)) in
+      record {
+        size = s .size;
+        same = λ e. s .same (idle e) ∙ k .same (idle e) ∙ f .same (idle e);
+        stuck = λ e all best high.
+            stuck-by table v m here roles named (usedPlane before) (used-length before size) few all best high
+            (sym (f .answer) ∙ idle e);
+        taken = λ h. rw (s .marks ∙ k .marks) (taken h);
+        called = λ h. calls-below table v m here roles named (usedPlane before) (sym (f .answer) ∙ free h);
+        noted = λ h known.
+            plane-more (λ i. eqb (nodeAt table i .kind) 26) n (leavesPlane before) (leavesPlane after) few known
+            (s .leaves ∙ noted (free h) ∙ rw (here, f .leaves) refl);
+        facts = λ h known.
+            settled-judged table v m used source question guard between after r s here (free h) few
+            (rw facts-same known) (rw facts-same (judges inside (taken h .fits) known));
+      }
 
-  -- one of a node that has no part in the same while and is no leave
+  -- that of a leave
+  pub leave-arm : (m : Node) (roles source question guard r : ℕ) (before now between after : List ℕ) (used : Bool)
+      → m ≡ nodeAt table n
+      → Named (m .kind) roles
+      → (n < nodes table → nodeFits table n ≡ true → FactsTo table n (factsPlane before)
+      → Judges table n (factsPlane before) source question guard)
+      → length before ≡ allPlanes
+      → Fields table v m roles before now used
+      → Kept used now between
+      → Settled table v m used source question guard between after r
+      → m .kind ≡ 26
+      → (used ≡ true → leavesPlane between ≡ withBit (leavesPlane now) n)
+      → Visited table v before after r
+  leave-arm m roles source question guard r before now between after used here named judges size f k s is noted =
+      arm m roles source question guard r before now between after used here named judges size f k s
+      (λ e. noted e ∙ simp (eq-eqb (m .kind) 26 is))
+
+  -- one of a node that is no leave
   pub plain-arm : (m : Node) (roles source question guard r : ℕ) (before now after : List ℕ) (used : Bool)
       → m ≡ nodeAt table n
       → Named (m .kind) roles
@@ -140,14 +104,11 @@ module _ (table : List ℕ) (v : Visit) (sized : Sized table (v .header)) (low :
       → length before ≡ allPlanes
       → Fields table v m roles before now used
       → Settled table v m used source question guard now after r
-      → question < 17
-      → Shut (m .kind)
+      → (m .kind ≡ 26 → ⊥)
       → Visited table v before after r
-  plain-arm m roles source question guard r before now after used here named judges size f s asked shut =
-      let (no18, no19, no20, no26) = rw here at shut in
-      noted-arm m roles source question guard r before now now after used here named judges size f
-      (kept-none used now (f .size)) s asked
-      (λ e. left-other table v sized low (factsPlane now) (leavesPlane now) no18 no19 no20 no26)
+  plain-arm m roles source question guard r before now after used here named judges size f s other =
+      arm m roles source question guard r before now now after used here named judges size f
+      (kept-none used now (f .size)) s (λ e. simp (ne-eqb (m .kind) 26 other))
 
   -- a kind that is not known
   pub no-arm : (before : List ℕ) → length before ≡ allPlanes → kindKnown table n ≡ false → Visited table v before before 0
@@ -155,12 +116,12 @@ module _ (table : List ℕ) (v : Visit) (sized : Sized table (v .header)) (low :
       record {
         size = size;
         same = λ e. refl;
-        stuck = λ e bound all.
+        stuck = λ e all.
             stuck-kind table v (usedPlane before) (omega (arith, low, sized .nodes-read, sized .nodes-high)) unknown;
         taken = λ found. absurd (found refl);
-        enclosed = λ found. absurd (found refl);
+        called = λ found. absurd (found refl);
+        noted = λ found. absurd (found refl);
         facts = λ found. absurd (found refl);
-        more = λ found. absurd (found refl);
       }
 
 -- a call that is taken names a procedure

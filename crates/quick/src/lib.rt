@@ -2,14 +2,12 @@
 ghost use mathlib.Core.Path.{_≡_};
 ghost use Prim.Native.Nat.{_<_};
 ghost use lib.ListN.{length};
+ghost use Rattle.rules.specs.Table.{unpacked, nodeAt};
 ghost use Rattle.table.specs.Sized.{Sized};
 ghost use Rattle.quick.specs.Visited.{Visited};
 ghost use Rattle.visit.specs.Fields.{allPlanes};
-use leaves::left_by_leave;
-use leaves::note_leave;
-use leaves::pass_on;
-use table::words::kind_at;
-use table::words::node_at;
+use table::words::kind_of;
+use table::words::unpacked;
 use visit::STUCK;
 use visit::Visit;
 use visit::facts::ALWAYS;
@@ -22,115 +20,91 @@ use visit::facts::OF_B;
 use visit::facts::OF_B_OR_C;
 use visit::facts::UNFLAGGED;
 use visit::facts::UNRULED;
-use visit::facts::fact;
 use visit::facts::settled;
 use visit::fields::fields;
-use visit::least::lesser;
+use visit::noted::note_leave;
 
-// The refusal by the node's rule, once its parts are used, its fact and its leaves noted; STUCK, and nothing changed, where a field does
-// not pass.
-pub fn quick(table: &[u8], planes: &mut [u32], visit: Visit) -> usize
+// The refusal by the node's rule, once its parts are used, its fact and a leave noted; STUCK, and nothing changed, where a field does not
+// pass. Whether a while is left locally is not looked at here.
+pub fn quick(table: &[u8], planes: &mut [u32], visit: Visit, packed: u32) -> usize
     requires { ⌜ Sized (now table) (visit .header) × (visit .node < visit .header .nodes) × (length (now planes) ≡ allPlanes) ⌝ }
+    requires { ⌜ unpacked packed ≡ nodeAt (now table) (visit .node) ⌝ }
     ensures { λ r. ⌜ Visited (now (table .entry)) visit (now (planes .entry)) (now (planes .exit)) r ⌝ }
 {
-    let header = visit.header;
-    let kind = kind_at(table, header, visit.node);
+    let kind = kind_of(packed);
     match kind {
         0 => {
-            let node = node_at(table, header, visit.node);
+            let node = unpacked(packed);
             let used = fields(table, planes, visit, node, 55);
             settled(used, table, planes, visit, node, NEVER, UNRULED, node.a)
         }
         1 => {
-            let node = node_at(table, header, visit.node);
+            let node = unpacked(packed);
             let used = fields(table, planes, visit, node, 100);
             settled(used, table, planes, visit, node, UNFLAGGED, UNRULED, node.a)
         }
         2 | 23 => {
-            let node = node_at(table, header, visit.node);
+            let node = unpacked(packed);
             let used = fields(table, planes, visit, node, 0);
             settled(used, table, planes, visit, node, ALWAYS, UNRULED, node.a)
         }
         3 | 16 => {
-            let node = node_at(table, header, visit.node);
+            let node = unpacked(packed);
             let used = fields(table, planes, visit, node, 0);
             settled(used, table, planes, visit, node, NEVER, UNRULED, node.a)
         }
         4 | 25 => {
-            let node = node_at(table, header, visit.node);
+            let node = unpacked(packed);
             let used = fields(table, planes, visit, node, 200);
             settled(used, table, planes, visit, node, ALWAYS, UNRULED, node.a)
         }
         5 => {
-            let node = node_at(table, header, visit.node);
+            let node = unpacked(packed);
             let used = fields(table, planes, visit, node, 200);
             settled(used, table, planes, visit, node, OF_A, UNRULED, node.a)
         }
         6 | 7 | 8 | 9 | 10 | 11 | 12 => {
-            let node = node_at(table, header, visit.node);
+            let node = unpacked(packed);
             let used = fields(table, planes, visit, node, 220);
             settled(used, table, planes, visit, node, OF_A_OR_B, UNRULED, node.a)
         }
         17 => {
-            let node = node_at(table, header, visit.node);
+            let node = unpacked(packed);
             let used = fields(table, planes, visit, node, 120);
             settled(used, table, planes, visit, node, FLAGGED, 13, node.b)
         }
         18 => {
-            let node = node_at(table, header, visit.node);
+            let node = unpacked(packed);
             let used = fields(table, planes, visit, node, 330);
-            pass_on(
-                used,
-                table,
-                planes,
-                visit.node,
-                node.b,
-                false,
-                node.a,
-                node.b,
-            );
             settled(used, table, planes, visit, node, OF_A_OR_B, UNRULED, node.a)
         }
         19 => {
-            let node = node_at(table, header, visit.node);
+            let node = unpacked(packed);
             let used = fields(table, planes, visit, node, 233);
-            let local = fact(planes, node.a);
-            pass_on(
-                used,
-                table,
-                planes,
-                visit.node,
-                node.b,
-                local,
-                node.b,
-                node.c,
-            );
             settled(used, table, planes, visit, node, OF_B_OR_C, 15, node.a)
         }
         20 => {
-            let node = node_at(table, header, visit.node);
+            let node = unpacked(packed);
             let used = fields(table, planes, visit, node, 230);
-            let left = left_by_leave(used, table, planes, visit.node, node.b);
-            let found = settled(used, table, planes, visit, node, OF_B, 16, node.a);
-            lesser(found, left)
+            settled(used, table, planes, visit, node, OF_B, 16, node.a)
         }
         21 => {
-            let node = node_at(table, header, visit.node);
+            let node = unpacked(packed);
             let used = fields(table, planes, visit, node, 400);
             settled(used, table, planes, visit, node, CALLED, UNRULED, node.a)
         }
         22 => {
-            let node = node_at(table, header, visit.node);
+            let node = unpacked(packed);
             let used = fields(table, planes, visit, node, 220);
             settled(used, table, planes, visit, node, NEVER, UNRULED, node.a)
         }
         24 => {
-            let node = node_at(table, header, visit.node);
+            let node = unpacked(packed);
             let used = fields(table, planes, visit, node, 122);
             settled(used, table, planes, visit, node, ALWAYS, 14, node.c)
         }
         26 => {
-            let node = node_at(table, header, visit.node);
+            let node = unpacked(packed);
             let used = fields(table, planes, visit, node, 0);
             note_leave(used, planes, visit.node);
             settled(used, table, planes, visit, node, NEVER, UNRULED, node.a)

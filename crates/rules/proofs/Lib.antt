@@ -30,6 +30,7 @@ pub mod Stands
 pub mod Meeting
 pub mod TurnCases
 pub mod BufferedLaws
+pub mod ScratchLaws
 pub mod SoundRun
 pub mod ServingLaws
 pub mod FairLaws

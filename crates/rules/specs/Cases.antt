@@ -1,5 +1,5 @@
--- The cases that the paper marks to be proved of the rules, and a few of leaves, of absent senders and of turns shared, one table
--- of theorems, each by computation from the table's words.
+-- The cases that the paper marks to be proved of the rules, and a few of leaves, of absent senders, of turns shared and of scratch, one
+-- table of theorems, each by computation from the table's words.
 use mathlib.Core.List.{List, [], _∷_, _++_}
 use mathlib.Core.Path.{_≡_, refl}
 use Prim.Native.Nat.{ℕ, zero, suc, _+_, _-_, _*_, _/_, _%_, _^_}
@@ -13,7 +13,7 @@ use Rattle.rules.specs.declared.TeamStatus.the-variants.{Going, Done, De
 use Rattle.rules.specs.declared.Verdict.{Verdict}
 use Rattle.rules.specs.declared.Verdict.the-variants.{Accepted}
 use Rattle.rules.specs.Acceptance
-use Rattle.rules.specs.Acceptance.{scratchWords, checked}
+use Rattle.rules.specs.Acceptance.{scratchWords, checked, checkedScratch}
 use Rattle.rules.specs.Answers.{refused}
 use Rattle.rules.specs.Arrivals
 use Rattle.rules.specs.Arrivals.{arrivalSize}
@@ -97,6 +97,25 @@ t1-shared-node = refl
 t1-no-variables : verdict (set t1 0 0x10020400) ≡ refused 3 0
 unfolding opened t1
 t1-no-variables = refl
+
+-- "Number 1 is now for fewer than 24 words", asked first, of a table that 4 would refuse; such a call leaves the words
+short-scratch : checked (bytes (take 6 t1)) (replicate 23 7) ≡ refused 1 0
+unfolding opened t1
+short-scratch = refl
+
+short-scratch-left : checkedScratch (replicate 23 7) ≡ replicate 23 7
+unfolding opened
+short-scratch-left = refl
+
+-- 24 words are enough, whatever they hold
+full-scratch : checked (bytes t2) (replicate 24 7) ≡ Accepted
+unfolding opened t1 t2
+full-scratch = refl
+
+-- "only the first 24 are zeroed; the rest keep their contents"
+long-scratch-left : checkedScratch (replicate 26 7) ≡ replicate 24 0 ++ 7 ∷ 7 ∷ []
+unfolding opened
+long-scratch-left = refl
 
 -- a call of a flagged procedure whose body is nothing, under a local condition: the flag decides
 flagged-call : List ℕ

@@ -1,6 +1,6 @@
 -- The definitions that a reader must believe: a file a chapter of the rules paper, in its order. "The paper" in the comments
--- is the rules paper; a quotation is the sentence that the definition stands for. Two are no chapters of it: Scheduling is request
--- U4, and by Buffered a claim of request U3 is stated.
+-- is the rules paper; a quotation is the sentence that the definition stands for. Three are no chapters of it: Scheduling is request
+-- U4, and by Buffered and Scratch claims of requests U3 and U5 are stated.
 pub mod Choice
 pub mod Below
 pub mod Answers
@@ -17,4 +17,5 @@ pub mod Step
 pub mod Run
 pub mod Scheduling
 pub mod Buffered
+pub mod Scratch
 pub mod Cases

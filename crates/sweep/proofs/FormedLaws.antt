@@ -22,11 +22,14 @@ use Rattle.table.specs.Sized.{Sized, shapeVerdict}
 use Rattle.table.specs.Uses.{Fitting}
 use Rattle.table.proofs.FittingLaws.{fitting}
 use Rattle.table.proofs.PlaceLaws.{each-refused, each-accepted, then-assoc}
-use Rattle.visit.specs.Facts.{ruleCode, flagCode}
+use Rattle.leaves.specs.Leaves.{leftCode}
+use Rattle.leaves.proofs.RuleLaws.{rule-whole}
+use Rattle.visit.specs.Facts.{ruleCode, guardCode, flagCode}
 use Rattle.visit.specs.Least.{none, leastBelow, verdictOf}
+use Rattle.visit.proofs.LeastLaws.{least-same, least-both}
 use Rattle.sweep.specs.Asked.{Filled, callsAsked, asked}
 use Rattle.sweep.specs.Swept.{filledVerdict, Uses}
-use Rattle.sweep.proofs.JudgedLaws.{judged-least}
+use Rattle.sweep.proofs.JudgedLaws.{rule-high, judged-least}
 
 -- 2 to 5, 6 to 11, and the rest
 in-parts : (strictly : Bool) (table : List ℕ)
@@ -125,3 +128,12 @@ module _ {table : List ℕ} {first best : ℕ} (uses : Uses table first best) wh
 
   pub passes-on : none ≤ best → (next : Verdict) → next ≡ (filledVerdict table then next)
   passes-on l next = simp (passes l)
+
+-- 13 to 16 with and without a look at leaves
+pub rules-whole : {table : List ℕ} {header : Header} → Sized table header
+    → min (leastBelow (guardCode table) (nodes table)) (leastBelow (leftCode table) (nodes table))
+    ≡ leastBelow (ruleCode table) (nodes table)
+rules-whole {table} sized =
+    sym (least-both (guardCode table) (leftCode table) (nodes table))
+    ∙ least-same (λ n. min (guardCode table n) (leftCode table n)) (ruleCode table) (nodes table)
+    (λ n l. rule-whole table n (omega (arith, sized .nodes-high)) (rule-high table n (omega (arith, sized .nodes-high))))

@@ -41,6 +41,10 @@ module _ (table : List ℕ) (n : ℕ) (few : n < 65536) where
   own-least (collective (exchange a)) = omega arith
   own-least leave = omega arith
 
+  pub rule-high : ruleCode table n ≤ none
+  unfolding ruleCode
+  rule-high = omega (arith, own-least (statementAt table n), high 13 (omega arith) (statementAt table n))
+
 module _ (table : List ℕ) (few-nodes : nodes table ≤ 65536) (few-procedures : procedures table ≤ 65536) where
   abbrev test : ℕ → ℕ → Bool
   test q n = passes q (ruleOf table (statementAt table n))

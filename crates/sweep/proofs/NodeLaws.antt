@@ -1,5 +1,5 @@
 -- The loops over the nodes: what a visit adds, and where they begin.
-use mathlib.Core.Bool.{Bool, true, false, cond}
+use mathlib.Core.Bool.{true, false, cond}
 use mathlib.Core.List.{List}
 use mathlib.Core.Logic.{⊎-elim}
 use mathlib.Core.Path.{_≡_, refl, sym, _∙_, ap}
@@ -12,22 +12,19 @@ use borrow.Author.Tests.{ltb-true}
 use borrow.Rule.Slice.PartMut.{putMid}
 use Rattle.rules.specs.Table.{procedures, nodes, body}
 use Rattle.rules.proofs.ChoiceLaws.{bool-cases}
-use Rattle.rules.specs.WellFormed.{wellBuilt}
-use Rattle.rules.specs.declared.Verdict.the-variants.{Accepted}
 use Rattle.calls.specs.Blocks.{Blocks, more}
 use Rattle.calls.specs.Blocks
 use Rattle.calls.proofs.BlockLaws.{blocks-called}
-use Rattle.leaves.proofs.RuleLaws.{leaves-none}
 use Rattle.table.specs.declared.Header.{Header}
 use Rattle.table.specs.Sized.{Sized}
 use Rattle.table.proofs.TestLaws.{never}
 use Rattle.visit.specs.declared.Visit.{Visit}
 use Rattle.visit.specs.Exact.{nodeBest, nodeMarks}
-use Rattle.visit.specs.Facts.{ruleCode}
+use Rattle.visit.specs.Facts.{guardCode}
 use Rattle.visit.specs.Fields.{usedPlane, planeWords, allPlanes}
 use Rattle.visit.specs.Least.{none, leastBelow}
 use Rattle.quick.specs.Visited.{Visited}
-use Rattle.visit.proofs.FactLaws.{facts-none}
+use Rattle.visit.proofs.FactLaws.{plane-none}
 use Rattle.visit.proofs.LeastLaws.{least-more}
 use Rattle.visit.proofs.PlaneLaws.{used-length, used-put-used, facts-put-used, leaves-put-used}
 use Rattle.sweep.specs.declared.Blocked.{Blocked}
@@ -39,7 +36,7 @@ use Rattle.sweep.proofs.SweptLaws.{node-swept}
 
 abbrev visiting : Visit → ℕ → Visit
 visiting first n =
-    record { header = first .header; node = n; low = first .low; limit = first .limit; judged = first .judged }
+    record { header = first .header; node = n; limit = first .limit }
 
 module _ (table : List ℕ) (first : Visit) (end start : ℕ) (before : List ℕ) where
   pub going-none : first .node ≤ end → length before ≡ allPlanes → start ≤ none
@@ -51,8 +48,8 @@ module _ (table : List ℕ) (first : Visit) (end start : ℕ) (before : List ℕ
         size = size;
         low = low;
         marks = λ best swept. swept;
-        enclosed = λ k from to. absurd (omega arith);
-        kept = λ built so-far. so-far;
+        called = λ k from to. absurd (omega arith);
+        kept = λ so-far. so-far;
       }
 
   pub going-more : Sized table (first .header) → end ≤ nodes table
@@ -71,49 +68,44 @@ module _ (table : List ℕ) (first : Visit) (end start : ℕ) (before : List ℕ
         low = omega (arith, least, g .low);
         marks = λ best swept.
             quick-swept (sized .nodes-high) (omega arith) (visited .taken taken) (g .marks best swept);
-        enclosed = λ k from to. elim (decLt k n) [
-          | yes earlier ↦ g .enclosed k from earlier
-          | no here ↦ let same : k ≡ n = omega arith in rw same (visited .enclosed taken)
+        called = λ k from to. elim (decLt k n) [
+          | yes earlier ↦ g .called k from earlier
+          | no here ↦ let same : k ≡ n = omega arith in rw same (visited .called taken)
         ];
-        kept = λ built so-far.
-            let old = g .kept built so-far in
-            let new = visited .more taken built (old .leaves) (λ strictly. old .judge strictly .0) in
+        kept = λ so-far.
+            let old = g .kept so-far in
+            let new = visited .facts taken (old .facts) in
             record {
-              leaves = new .0;
-              judge = λ strictly. (
-                visited .facts taken strictly (old .judge strictly .0),
-                least ∙ rw (old .judge strictly .1, new .1 strictly) (sym (least-more (ruleCode table) n)),
-              );
+              noted = visited .noted taken (old .noted);
+              facts = new .0;
+              least = least ∙ rw (old .least, new .1) (sym (least-more (guardCode table) n));
             };
       }
 
 -- before the first node
-kept-none : (table : List ℕ) (judged : Bool) → KeptTo table judged 0 none (replicate allPlanes 0)
+kept-none : (table : List ℕ) → KeptTo table 0 none (replicate allPlanes 0)
 unfolding leastBelow
-kept-none table judged = record { leaves = leaves-none table judged; judge = λ strictly. (facts-none table, refl) }
+kept-none table = record { noted = plane-none _; facts = plane-none _; least = refl }
 
 -- it does not change with the plane of the nodes used
-pub kept-put : {table : List ℕ} {judged : Bool} {n rule : ℕ} (planes : List ℕ) (size : length planes ≡ allPlanes) (words : List ℕ)
-    (many : length words ≡ planeWords) → KeptTo table judged n rule planes
-    → KeptTo table judged n rule (putMid 0 planeWords planes words)
+pub kept-put : {table : List ℕ} {n rule : ℕ} (planes : List ℕ) (size : length planes ≡ allPlanes) (words : List ℕ)
+    (many : length words ≡ planeWords) → KeptTo table n rule planes → KeptTo table n rule (putMid 0 planeWords planes words)
 kept-put planes size words many kept =
     record {
-      leaves = rw (leaves-put-used planes size words many) (kept .leaves);
-      judge = λ strictly. (
-        rw (facts-put-used planes size words many) (kept .judge strictly .0),
-        kept .judge strictly .1,
-      );
+      noted = rw (leaves-put-used planes size words many) (kept .noted);
+      facts = rw (facts-put-used planes size words many) (kept .facts);
+      least = kept .least;
     }
 
 -- block by block: the blocks of the procedures below p end before node n
 
-pub record Blocking (table : List ℕ) (judged : Bool) (planes : List ℕ) (n p rule : ℕ) : Type 0 where
+pub record Blocking (table : List ℕ) (planes : List ℕ) (n p rule : ℕ) : Type 0 where
   pub to : n ≤ nodes table
   pub within : p ≤ procedures table
   pub size : length planes ≡ allPlanes
   pub low : rule ≤ none
   pub marks : SweptTo table n none (usedPlane planes)
-  pub kept : wellBuilt table ≡ Accepted → KeptTo table judged n rule planes
+  pub kept : KeptTo table n rule planes
   pub blocks : Blocks table n p
 
 -- the block of procedure p, where there is one from node n on
@@ -125,8 +117,8 @@ block-is table p n end e inside =
     (λ (h : ltb (body table p) (nodes table) ≡ false). let z : end ≡ 0 = e ∙ simp h in absurd (omega arith))
     (bool-cases (ltb (body table p) (nodes table)))
 
-module _ (table : List ℕ) (judged : Bool) where
-  pub blocking-none : Blocking table judged (replicate allPlanes 0) 0 0 none
+module _ (table : List ℕ) where
+  pub blocking-none : Blocking table (replicate allPlanes 0) 0 0 none
   blocking-none =
       record {
         to = omega arith;
@@ -134,12 +126,12 @@ module _ (table : List ℕ) (judged : Bool) where
         size = refl;
         low = omega arith;
         marks = swept-none table;
-        kept = λ built. kept-none table judged;
+        kept = kept-none table;
         blocks = Blocks.none;
       }
 
-  module _ {planes : List ℕ} {n p rule : ℕ} (b : Blocking table judged planes n p rule) where
-    pub blocking-stops : InBlocks table judged planes (record { node = n; rule = rule; ordered = false })
+  module _ {planes : List ℕ} {n p rule : ℕ} (b : Blocking table planes n p rule) where
+    pub blocking-stops : InBlocks table planes (record { node = n; rule = rule; ordered = false })
     blocking-stops =
         record {
           to = b .to;
@@ -150,7 +142,7 @@ module _ (table : List ℕ) (judged : Bool) where
           called = λ e. never (sym e);
         }
 
-    pub blocking-ends : p ≡ procedures table → InBlocks table judged planes (record { node = n; rule = rule; ordered = true })
+    pub blocking-ends : p ≡ procedures table → InBlocks table planes (record { node = n; rule = rule; ordered = true })
     blocking-ends all =
         record {
           to = b .to;
@@ -162,23 +154,23 @@ module _ (table : List ℕ) (judged : Bool) where
         }
 
     abbrev in-block : Header → Visit
-    in-block header = record { header = header; node = n; low = n; limit = p; judged = judged }
+    in-block header = record { header = header; node = n; limit = p }
 
     module _ (header : Header) (end : ℕ) (within : end ≤ nodes table) (after : List ℕ) (r : Reached)
         (q : Quickly table (in-block header) end rule planes after r) where
-      pub block-stops : InBlocks table judged after (record { node = r .node; rule = r .rule; ordered = false })
+      pub block-stops : InBlocks table after (record { node = r .node; rule = r .rule; ordered = false })
       block-stops =
           record {
             to = omega (arith, q .going .to);
             size = q .going .size;
             low = q .going .low;
             marks = q .going .marks none (b .marks);
-            kept = λ built. q .going .kept built (b .kept built);
+            kept = q .going .kept (b .kept);
             called = λ e. never (sym e);
           }
 
       pub block-more : p < procedures table → n < end → end ≡ body table p + 1 → (r .node < end → ⊥)
-          → Blocking table judged after (r .node) (p + 1) (r .rule)
+          → Blocking table after (r .node) (p + 1) (r .rule)
       block-more here inside last whole =
           let all : r .node ≡ body table p + 1 = omega (arith, q .going .to) in
           record {
@@ -187,30 +179,30 @@ module _ (table : List ℕ) (judged : Bool) where
             size = q .going .size;
             low = q .going .low;
             marks = q .going .marks none (b .marks);
-            kept = λ built. q .going .kept built (b .kept built);
+            kept = q .going .kept (b .kept);
             blocks =
                 rw all
-                (more n p (b .blocks) (omega arith) (λ k from to. q .going .enclosed k from (omega arith)));
+                (more n p (b .blocks) (omega arith) (λ k from to. q .going .called k from (omega arith)));
           }
 
 -- the nodes from there on, wherever they stand
 
-pub record Resting (table : List ℕ) (judged : Bool) (planes : List ℕ) (best : ℕ) (r : Reached) : Type 0 where
+pub record Resting (table : List ℕ) (planes : List ℕ) (best : ℕ) (r : Reached) : Type 0 where
   pub to : r .node ≤ nodes table
   pub size : length planes ≡ allPlanes
   pub low : r .rule ≤ none
   pub high : best ≤ none
   pub marks : SweptTo table (r .node) best (usedPlane planes)
-  pub kept : wellBuilt table ≡ Accepted → best ≡ none → KeptTo table judged (r .node) (r .rule) planes
+  pub kept : best ≡ none → KeptTo table (r .node) (r .rule) planes
   pub stuck : r .node < nodes table → Fails table (r .node) planes
 
-module _ (table : List ℕ) (header : Header) (sized : Sized table header) (judged : Bool) where
+module _ (table : List ℕ) (header : Header) (sized : Sized table header) where
   abbrev from-node : ℕ → Visit
-  from-node n = record { header = header; node = n; low = 0; limit = header .procedures; judged = judged }
+  from-node n = record { header = header; node = n; limit = header .procedures }
 
-  pub resting-none : (blocked : Blocked) (planes after : List ℕ) (r : Reached) → InBlocks table judged planes blocked
+  pub resting-none : (blocked : Blocked) (planes after : List ℕ) (r : Reached) → InBlocks table planes blocked
       → Quickly table (from-node (blocked .node)) (header .nodes) (blocked .rule) planes after r
-      → Resting table judged after none r
+      → Resting table after none r
   resting-none blocked planes after r b q =
       record {
         to = omega (arith, q .going .to, sized .nodes-read);
@@ -218,16 +210,16 @@ module _ (table : List ℕ) (header : Header) (sized : Sized table header) (judg
         low = q .going .low;
         high = omega arith;
         marks = q .going .marks none (b .marks);
-        kept = λ built clean. q .going .kept built (b .kept built);
-        stuck = λ inside. q .stuck (omega (arith, sized .nodes-read)) refl (sized .procedures-read);
+        kept = λ clean. q .going .kept (b .kept);
+        stuck = λ inside. q .stuck (omega (arith, sized .nodes-read)) (sized .procedures-read);
       }
 
-  pub resting-more : (planes words after : List ℕ) (best best′ : ℕ) (now r : Reached) → Resting table judged planes best now
+  pub resting-more : (planes words after : List ℕ) (best best′ : ℕ) (now r : Reached) → Resting table planes best now
       → now .node < nodes table
       → best′ ≡ nodeBest table (now .node) (usedPlane planes) best
       → words ≡ nodeMarks table (now .node) (usedPlane planes)
       → Quickly table (from-node (now .node + 1)) (header .nodes) (now .rule) (putMid 0 planeWords planes words) after r
-      → Resting table judged after best′ r
+      → Resting table after best′ r
   resting-more planes words after best best′ now r s inside found noted q =
       let fails : best′ < none = rw found (s .stuck inside best (s .high)) in
       let many : length words ≡ planeWords =
@@ -241,19 +233,19 @@ module _ (table : List ℕ) (header : Header) (sized : Sized table header) (judg
         low = q .going .low;
         high = omega arith;
         marks = q .going .marks best′ swept;
-        kept = λ built clean. absurd (omega arith);
-        stuck = λ more. q .stuck (omega (arith, sized .nodes-read)) refl (sized .procedures-read);
+        kept = λ clean. absurd (omega arith);
+        stuck = λ more. q .stuck (omega (arith, sized .nodes-read)) (sized .procedures-read);
       }
 
   pub resting-ends : (planes before : List ℕ) (best : ℕ) (now : Reached) (blocked : Blocked)
-      → Resting table judged planes best now
-      → (now .node < header .nodes → ⊥) → InBlocks table judged before blocked
-      → AllNodes table judged planes (record { best = best; rule = now .rule; ordered = blocked .ordered })
+      → Resting table planes best now
+      → (now .node < header .nodes → ⊥) → InBlocks table before blocked
+      → AllNodes table planes (record { best = best; rule = now .rule; ordered = blocked .ordered })
   resting-ends planes before best now blocked s end b =
       let all : now .node ≡ nodes table = omega (arith, s .to, sized .nodes-read) in
       record {
         size = s .size;
         marks = rw all at (s .marks);
-        kept = λ built clean. rw all at (s .kept built clean);
+        kept = λ clean. rw all at (s .kept clean);
         called = b .called;
       }

@@ -4,7 +4,6 @@ ghost use Prim.Native.Nat.{_<_, _≤_, min};
 ghost use lib.ListN.{length};
 ghost use Rattle.rules.specs.Table.{nodes, procedures};
 ghost use Rattle.sweep.specs.Asked.{Filled};
-ghost use Rattle.sweep.specs.Nodes.{JudgedTo};
 ghost use Rattle.sweep.specs.Swept.{bodyBest, bodyMarks, unusedBest, AfterNodes, AfterBodies, Uses};
 ghost use Rattle.table.specs.Sized.{Sized};
 ghost use Rattle.visit.specs.Facts.{ruleCode, flagCode, FactsTo};
@@ -95,7 +94,8 @@ fn flag_body(table: &[u8], header: Header, planes: &[u32], best: usize, p: usize
 
 // The least refusal of 13 to 17.
 pub(crate) fn unflagged(table: &[u8], header: Header, planes: &[u32], rule: usize) -> usize
-    requires { ⌜ Filled (now table) header × (length (now planes) ≡ allPlanes) × JudgedTo (now table) (nodes (now table)) rule (now planes) ⌝ }
+    requires { ⌜ Filled (now table) header × (length (now planes) ≡ allPlanes) × FactsTo (now table) (nodes (now table)) (factsPlane (now planes))
+        × (rule ≡ leastBelow (ruleCode (now table)) (nodes (now table))) ⌝ }
     ensures { λ r. ⌜ r ≡ min (leastBelow (ruleCode (now (table .entry))) (nodes (now (table .entry))))
         (leastBelow (flagCode (now (table .entry))) (procedures (now (table .entry)))) ⌝ }
 {

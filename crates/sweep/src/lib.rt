@@ -6,7 +6,7 @@ ghost use lib.ListN.{length, replicate};
 ghost use Rattle.rules.specs.Acceptance.{judged};
 ghost use Rattle.rules.specs.Answers.{_then_};
 ghost use Rattle.rules.specs.Table.{nodes};
-ghost use Rattle.rules.specs.WellFormed.{question12, wellBuilt, wellFormed};
+ghost use Rattle.rules.specs.WellFormed.{question12, wellFormed};
 ghost use Rattle.rules.specs.declared.Verdict.the-variants.{Accepted};
 ghost use Rattle.sweep.specs.Asked.{Filled, FirstCall, callsAsked, asked};
 ghost use Rattle.sweep.specs.Nodes.{KeptTo};
@@ -18,6 +18,7 @@ use crate::bodies::unflagged;
 use crate::nodes::sweep_nodes;
 use calls::first_miscalled;
 use leaves::loose::first_loose;
+use leaves::pass_leaves;
 use rules::Verdict;
 use table::Header;
 use table::marks::clear;
@@ -76,19 +77,20 @@ fn ask_calls(
     found: Found,
 ) -> Verdict
     requires { ⌜ Filled (now table) header × (length (now planes) ≡ allPlanes) × (found .ordered ≡ true → question12 (now table) ≡ Accepted) ⌝ }
-    requires { ⌜ (wellBuilt (now table) ≡ Accepted → KeptTo (now table) judged (nodes (now table)) (found .rule) (now planes)) ⌝ }
+    requires { ⌜ KeptTo (now table) (nodes (now table)) (found .rule) (now planes) ⌝ }
     ensures { λ r. ⌜ r ≡ callsAsked judged (now (table .entry)) ⌝ }
 {
     let call = first_call(table, header, planes, found.ordered);
     if call < header.nodes {
         return refused(12, call as u32);
     }
+    let rule = pass_leaves(table, header, planes, found.rule);
     let leave = first_loose(table, header, planes);
     if leave < header.nodes {
         return refused(26, leave as u32);
     }
     if judged {
-        return verdict(unflagged(table, header, planes, found.rule));
+        return verdict(unflagged(table, header, planes, rule));
     }
     Verdict::Accepted
 }
@@ -98,7 +100,7 @@ fn ask_contents(table: &[u8], header: Header, planes: &mut [u32], judged: bool) 
     requires { ⌜ Sized (now table) header × (shapeVerdict (now table) ≡ Accepted) × (now planes ≡ replicate allPlanes 0) ⌝ }
     ensures { λ r. ⌜ r ≡ (filledVerdict (now (table .entry)) then callsAsked judged (now (table .entry))) ⌝ }
 {
-    let found = sweep_nodes(table, header, planes, judged);
+    let found = sweep_nodes(table, header, planes);
     let best = sweep_uses(table, header, &mut planes[0..PLANE], found.best);
     if best < NONE {
         return verdict(best);

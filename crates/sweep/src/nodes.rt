@@ -15,6 +15,7 @@ use crate::Reached;
 use quick::quick;
 use table::Header;
 use table::words::body;
+use table::words::packed_at;
 use visit::PLANE;
 use visit::STUCK;
 use visit::Visit;
@@ -40,11 +41,10 @@ fn sweep_quickly(
         let visit = Visit {
             header: header,
             node: n,
-            low: first.low,
             limit: first.limit,
-            judged: first.judged,
         };
-        let found = quick(table, planes, visit);
+        let packed = packed_at(table, header, n);
+        let found = quick(table, planes, visit, packed);
         if found == STUCK {
             return Reached {
                 node: n,
@@ -70,9 +70,9 @@ fn block_end(table: &[u8], header: Header, p: usize) -> usize
 }
 
 // Block by block, as long as each procedure's nodes stand together and call lower procedures only.
-fn sweep_blocks(table: &[u8], header: Header, planes: &mut [u32], judged: bool) -> Blocked
+fn sweep_blocks(table: &[u8], header: Header, planes: &mut [u32]) -> Blocked
     requires { ⌜ Sized (now table) header × (now planes ≡ replicate allPlanes 0) ⌝ }
-    ensures { λ r. ⌜ InBlocks (now (table .entry)) judged (now (planes .exit)) r ⌝ }
+    ensures { λ r. ⌜ InBlocks (now (table .entry)) (now (planes .exit)) r ⌝ }
 {
     let count = header.procedures;
     let mut rule = NONE;
@@ -90,9 +90,7 @@ fn sweep_blocks(table: &[u8], header: Header, planes: &mut [u32], judged: bool) 
         let first = Visit {
             header: header,
             node: n,
-            low: n,
             limit: p,
-            judged: judged,
         };
         let reached = sweep_quickly(table, planes, first, end, rule);
         rule = reached.rule;
@@ -114,15 +112,9 @@ fn sweep_blocks(table: &[u8], header: Header, planes: &mut [u32], judged: bool) 
 }
 
 // The nodes from there on, wherever they stand.
-fn sweep_rest(
-    table: &[u8],
-    header: Header,
-    planes: &mut [u32],
-    judged: bool,
-    blocked: Blocked,
-) -> Found
-    requires { ⌜ Sized (now table) header × InBlocks (now table) judged (now planes) blocked ⌝ }
-    ensures { λ r. ⌜ AllNodes (now (table .entry)) judged (now (planes .exit)) r ⌝ }
+fn sweep_rest(table: &[u8], header: Header, planes: &mut [u32], blocked: Blocked) -> Found
+    requires { ⌜ Sized (now table) header × InBlocks (now table) (now planes) blocked ⌝ }
+    ensures { λ r. ⌜ AllNodes (now (table .entry)) (now (planes .exit)) r ⌝ }
 {
     let count = header.nodes;
     let limit = header.procedures;
@@ -130,9 +122,7 @@ fn sweep_rest(
     let first = Visit {
         header: header,
         node: blocked.node,
-        low: 0,
         limit: limit,
-        judged: judged,
     };
     let mut reached = sweep_quickly(table, planes, first, count, blocked.rule);
     while reached.node < count {
@@ -141,9 +131,7 @@ fn sweep_rest(
         let next = Visit {
             header: header,
             node: n + 1,
-            low: 0,
             limit: limit,
-            judged: judged,
         };
         reached = sweep_quickly(table, planes, next, count, reached.rule);
     }
@@ -154,10 +142,10 @@ fn sweep_rest(
     }
 }
 
-pub(crate) fn sweep_nodes(table: &[u8], header: Header, planes: &mut [u32], judged: bool) -> Found
+pub(crate) fn sweep_nodes(table: &[u8], header: Header, planes: &mut [u32]) -> Found
     requires { ⌜ Sized (now table) header × (now planes ≡ replicate allPlanes 0) ⌝ }
-    ensures { λ r. ⌜ AllNodes (now (table .entry)) judged (now (planes .exit)) r ⌝ }
+    ensures { λ r. ⌜ AllNodes (now (table .entry)) (now (planes .exit)) r ⌝ }
 {
-    let blocked = sweep_blocks(table, header, planes, judged);
-    sweep_rest(table, header, planes, judged, blocked)
+    let blocked = sweep_blocks(table, header, planes);
+    sweep_rest(table, header, planes, blocked)
 }

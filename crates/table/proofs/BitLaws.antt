@@ -1,20 +1,21 @@
 -- Laws of marks: marking sets exactly that bit and keeps the length; zeroed words mark nothing.
-use mathlib.Core.Bool.{true, false}
+use mathlib.Core.Bool.{true, false, cond}
 use mathlib.Core.List.{List}
 use mathlib.Core.Logic.{⊎-elim}
-use mathlib.Core.Path.{_≡_, refl, sym, _∙_, ap}
-use Prim.Native.Nat.{ℕ, _+_, _-_, _*_, _/_, _%_, _^_, _≤_, _<_}
+use mathlib.Core.Path.{_≡_, refl, sym, _∙_, ap, ap₂}
+use Prim.Native.Nat.{ℕ, _+_, _-_, _*_, _/_, _%_, _^_, _≤_, _<_, max}
 use native.Mathlib.Decide.{decLt, ℕ-discrete}
-use native.Mathlib.Nat.{add-div-right, add-mul-div-left, div-eq-of-lt, zero-div, one-mul}
+use native.Mathlib.Nat.{add-div-right, add-mul-div-left, zero-div, one-mul, add-mul, div-add-mod', mod-lt}
 use native.Mathlib.Omega.{arith}
+use lib.Bits.{bitOr, or-step, or-zero-r, or-block}
 use lib.Dec.{eqb}
 use lib.ListN.{length, getD, set, replicate, length-set, length-replicate, getD-replicate, List·getD-eq-default}
 use lib.Pow.{pow-pos, pow-add, shl-exact, shr-shr}
 use lib.Seq.{getD-set-same, getD-set-other, set-out}
-use borrow.Author.Tests.{eq-eqb, ne-eqb, eqb-true, eqb-false}
+use borrow.Author.Tests.{eq-eqb, eqb-true, eqb-false}
 use Rattle.rules.specs.Choice.{firstFailing, allBelow}
 use Rattle.rules.proofs.ChoiceLaws.{bool-cases, all-at}
-use Rattle.table.specs.Marks.{hasBit, bitAt, withBit, withoutBit}
+use Rattle.table.specs.Marks.{hasBit, bitAt, withBit}
 
 -- a word's bit k is clear: what its places are after 2 ^ k is added
 
@@ -65,38 +66,33 @@ bit-kept w k j other clear =
           ap (λ (x : ℕ). eqb (x % 2) 1) same
     ]
 
--- a word of 32 bits stays one
-pub added-fits : (w k : ℕ) → k < 32 → w < 2 ^ 32 → hasBit w k ≡ false → w + 2 ^ k < 2 ^ 32
-added-fits w k l fits clear =
-    let e : k + (1 + (31 - k)) ≡ 32 = omega arith in
-    let same : (w + 2 ^ k) / 2 ^ 32 ≡ w / 2 ^ 32 = rw e at (above-place w k clear (31 - k)) in
-    omega arith
+odd : (w k : ℕ) → hasBit w k ≡ true → w / 2 ^ k % 2 ≡ 1
+unfolding hasBit
+odd w k here = eqb-true (w / 2 ^ k % 2) 1 here
 
--- a word's bit k is set: 2 ^ k is taken off, and added again
-module _ (w k : ℕ) (here : hasBit w k ≡ true) where
-  odd : w / 2 ^ k % 2 ≡ 1
-  unfolding hasBit
-  odd = eqb-true (w / 2 ^ k % 2) 1 here
+-- the code's bitwise or
 
-  pub bit-within : 2 ^ k ≤ w
-  bit-within =
-      elim (decLt w (2 ^ k)) [
-        | yes l ↦ let z : w / 2 ^ k ≡ 0 = div-eq-of-lt l in absurd (omega (arith, odd))
-        | no m ↦ omega arith
-      ]
+or-one : (h : ℕ) → bitOr h 1 ≡ h / 2 * 2 + max (h % 2) 1
+or-one h = or-step h 1 ∙ ap (λ (x : ℕ). x * 2 + max (h % 2) 1) (or-zero-r (h / 2))
 
-  again : w - 2 ^ k + 2 ^ k ≡ w
-  again = omega (arith, bit-within)
-
-  pub bit-taken : hasBit (w - 2 ^ k) k ≡ false
-  unfolding hasBit
-  bit-taken =
-      let one : w / 2 ^ k ≡ (w - 2 ^ k) / 2 ^ k + 1 =
-      rw again at (add-div-right (w - 2 ^ k) (pow-pos k)) in
-      ne-eqb ((w - 2 ^ k) / 2 ^ k % 2) 1 (λ e. omega (arith, odd))
-
-  pub bit-left : (j : ℕ) → (j ≡ k → ⊥) → hasBit (w - 2 ^ k) j ≡ hasBit w j
-  bit-left j other = sym (bit-kept (w - 2 ^ k) k j other bit-taken) ∙ ap (λ (x : ℕ). hasBit x j) again
+pub or-bit : (w k : ℕ) → bitOr w (2 ^ k) ≡ cond (hasBit w k) w (w + 2 ^ k)
+or-bit w k =
+    let h = w / 2 ^ k in
+    let l = w % 2 ^ k in
+    let whole : h * 2 ^ k + l ≡ w = div-add-mod' w (2 ^ k) in
+    let alone : 2 ^ k ≡ 1 * 2 ^ k + 0 = omega arith in
+    let apart : bitOr w (2 ^ k) ≡ bitOr h 1 * 2 ^ k + l =
+    ap₂ bitOr (sym whole) alone
+    ∙ or-block k h 1 l 0 (mod-lt w (pow-pos k)) (pow-pos k)
+    ∙ ap (λ (x : ℕ). bitOr h 1 * 2 ^ k + x) (or-zero-r l) in
+    ⊎-elim
+    (λ (e : hasBit w k ≡ true).
+    let same : bitOr h 1 ≡ h = omega (arith, or-one h, odd w k e) in
+    simp e (apart ∙ ap (λ (x : ℕ). x * 2 ^ k + l) same ∙ whole))
+    (λ (e : hasBit w k ≡ false).
+    let more : bitOr h 1 ≡ h + 1 = omega (arith, or-one h, even w k e) in
+    simp e (apart ∙ ap (λ (x : ℕ). x * 2 ^ k + l) more ∙ omega (arith, whole, add-mul h 1 (2 ^ k))))
+    (bool-cases (hasBit w k))
 
 -- the code's shift
 pub shifted : (k : ℕ) → k < 32 → (1 * 2 ^ k) % 2 ^ 32 ≡ 2 ^ k
@@ -166,33 +162,6 @@ bit-other m n k other =
     (bool-cases (bitAt m n))
 
 -- taking a mark off clears the bit, and no other
-pub length-withoutBit : (m : List ℕ) (n : ℕ) → length (withoutBit m n) ≡ length m
-unfolding withoutBit
-length-withoutBit m n =
-    ⊎-elim
-    (λ (e : bitAt m n ≡ true). simp (e, length-set))
-    (λ (e : bitAt m n ≡ false). simp e)
-    (bool-cases (bitAt m n))
-
-pub without-same : (m : List ℕ) (n : ℕ) → n < 32 * length m → bitAt (withoutBit m n) n ≡ false
-unfolding withoutBit
-without-same m n l =
-    ⊎-elim
-    (λ (e : bitAt m n ≡ true).
-    simp e (set-same m n (getD m (n / 32) 0 - 2 ^ (n % 32)) l ∙ bit-taken (getD m (n / 32) 0) (n % 32) (bit-set m n e)))
-    (λ (e : bitAt m n ≡ false). simp e)
-    (bool-cases (bitAt m n))
-
-pub without-other : (m : List ℕ) (n k : ℕ) → (k ≡ n → ⊥) → bitAt (withoutBit m n) k ≡ bitAt m k
-unfolding withoutBit
-without-other m n k other =
-    ⊎-elim
-    (λ (e : bitAt m n ≡ true).
-    simp e
-    (set-other m n k (getD m (n / 32) 0 - 2 ^ (n % 32)) other (bit-left (getD m (n / 32) 0) (n % 32) (bit-set m n e))))
-    (λ (e : bitAt m n ≡ false). simp e)
-    (bool-cases (bitAt m n))
-
 -- zeroed words mark nothing
 pub bit-zero : (count k : ℕ) → bitAt (replicate count 0) k ≡ false
 unfolding bitAt hasBit

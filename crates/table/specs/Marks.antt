@@ -2,7 +2,7 @@
 use mathlib.Core.Bool.{Bool, true, false, cond}
 use mathlib.Core.List.{List, [], _∷_}
 use mathlib.Core.Path.{_≡_}
-use Prim.Native.Nat.{ℕ, _+_, _-_, _/_, _%_, _^_, _≤_, _<_}
+use Prim.Native.Nat.{ℕ, _+_, _/_, _%_, _^_, _≤_, _<_}
 use lib.Dec.{eqb}
 use lib.ListN.{getD, set}
 
@@ -17,10 +17,6 @@ bitAt marks n = hasBit (getD marks (n / 32) 0) (n % 32)
 -- the marks with node n marked
 unfoldable pub withBit : List ℕ → ℕ → List ℕ
 withBit marks n = cond (bitAt marks n) marks (set marks (n / 32) (getD marks (n / 32) 0 + 2 ^ (n % 32)))
-
--- and with node n not marked
-unfoldable pub withoutBit : List ℕ → ℕ → List ℕ
-withoutBit marks n = cond (bitAt marks n) (set marks (n / 32) (getD marks (n / 32) 0 - 2 ^ (n % 32))) marks
 
 -- the marks with each node of a list marked
 unfoldable pub withBits : List ℕ → List ℕ → List ℕ

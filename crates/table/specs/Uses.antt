@@ -1,10 +1,10 @@
--- What the code works out of the uses of nodes: marks for question 11, and the bounds that question 12 goes by.
+-- What the code works out of the uses of nodes: marks for question 11, and the bound that question 12 goes by.
 use mathlib.Core.Bool.{true, cond}
 use mathlib.Core.List.{List, [], _∷_}
 use mathlib.Core.Path.{_≡_}
-use Prim.Native.Nat.{ℕ, _≤_, _<_, min}
+use Prim.Native.Nat.{ℕ, _<_, min}
 use Rattle.rules.specs.Table.{procedures, nodes, body, call, statementAt}
-use Rattle.rules.specs.WellFormed.{nodeFits, partsAt, occurrences}
+use Rattle.rules.specs.WellFormed.{nodeFits}
 use Rattle.table.specs.declared.Header.{Header}
 use Rattle.table.specs.Marks.{bitAt, withBit}
 use Rattle.table.specs.Sized.{Sized}
@@ -24,7 +24,6 @@ unfoldable pub repeated : List ℕ → ℕ → List ℕ → ℕ
 repeated marks lowest [] = lowest
 repeated marks lowest (n ∷ nodes) = repeated (withBit marks n) (noted marks lowest n) nodes
 
--- the parts of node n lie from `low` on, and it calls no procedure from `limit` on
-pub record Enclosed (table : List ℕ) (n low limit : ℕ) : Type 0 where
-  pub parts : (a : ℕ) → 0 < occurrences a (partsAt table n) → low ≤ a
-  pub calls : (q : ℕ) → statementAt table n ≡ call q → q < limit
+-- node n calls no procedure from `limit` on
+abbrev pub CallsBelow : List ℕ → ℕ → ℕ → Type 0
+CallsBelow table n limit = (q : ℕ) → statementAt table n ≡ call q → q < limit

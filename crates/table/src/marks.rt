@@ -1,10 +1,9 @@
 // A set of nodes as bits in lent words: node n is bit n % 32 of word n / 32.
-ghost use mathlib.Core.Bool.{false};
 ghost use mathlib.Core.Path.{_≡_};
 ghost use Prim.Native.Nat.{_+_, _*_, _<_, _≤_};
 ghost use lib.ListN.{length, replicate};
 ghost use Rattle.rules.specs.Choice.{firstFailing};
-ghost use Rattle.table.specs.Marks.{bitAt, withBit, withoutBit, Passed};
+ghost use Rattle.table.specs.Marks.{bitAt, withBit, Passed};
 
 pub fn marked(marks: &[u32], n: usize) -> bool
     requires { ⌜ n < 32 * length (now marks) ⌝ }
@@ -13,32 +12,12 @@ pub fn marked(marks: &[u32], n: usize) -> bool
     (marks[n / 32] >> (n % 32)) % 2 == 1
 }
 
-// Marks a node that is not marked.
-pub fn put(marks: &mut [u32], n: usize)
-    requires { ⌜ (n < 32 * length (now marks)) × (bitAt (now marks) n ≡ false) ⌝ }
-    ensures { λ _. ⌜ now (marks .exit) ≡ withBit (now (marks .entry)) n ⌝ }
-{
-    let bit: u32 = 1 << (n % 32);
-    marks[n / 32] = marks[n / 32] + bit;
-}
-
 pub fn mark(marks: &mut [u32], n: usize)
     requires { ⌜ n < 32 * length (now marks) ⌝ }
     ensures { λ r. ⌜ now (marks .exit) ≡ withBit (now (marks .entry)) n ⌝ }
 {
-    if !marked(marks, n) {
-        put(marks, n);
-    }
-}
-
-pub fn unmark(marks: &mut [u32], n: usize)
-    requires { ⌜ n < 32 * length (now marks) ⌝ }
-    ensures { λ _. ⌜ now (marks .exit) ≡ withoutBit (now (marks .entry)) n ⌝ }
-{
-    if marked(marks, n) {
-        let bit: u32 = 1 << (n % 32);
-        marks[n / 32] = marks[n / 32] - bit;
-    }
+    let bit: u32 = 1 << (n % 32);
+    marks[n / 32] = marks[n / 32] | bit;
 }
 
 pub fn clear(marks: &mut [u32])

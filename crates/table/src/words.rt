@@ -1,8 +1,8 @@
-// Words out of bytes, high byte first, and what they pack. A node's place is known to `node_at` and `kind_at` alone.
+// Words out of bytes, high byte first, and what they pack. A node's place is known to `node_at`, `kind_at` and `packed_at` alone.
 ghost use mathlib.Core.Path.{_≡_};
 ghost use Prim.Native.Nat.{_+_, _*_, _<_, _≤_};
 ghost use lib.ListN.{length};
-ghost use Rattle.rules.specs.Table.{wordAt, flagged, body, effectFlag, nodeAt};
+ghost use Rattle.rules.specs.Table.{wordAt, flagged, body, effectFlag, unpacked, nodeAt};
 ghost use Rattle.table.specs.Header.{headerOf};
 use crate::Header;
 use rules::Node;
@@ -57,11 +57,9 @@ pub fn effect_flag(table: &[u8], p: usize) -> bool
     word(table, 2 + p) / 8388608 % 2 == 1
 }
 
-pub fn node_at(table: &[u8], header: Header, n: usize) -> Node
-    requires { ⌜ (header ≡ headerOf (now table)) × (4 * (2 + header .procedures + n) + 3 < length (now table)) ⌝ }
-    ensures { λ r. ⌜ r ≡ nodeAt (now (table .entry)) n ⌝ }
+pub fn unpacked(packed: u32) -> Node
+    ensures { λ r. ⌜ r ≡ unpacked packed ⌝ }
 {
-    let packed = word(table, 2 + header.procedures + n);
     Node {
         kind: packed / 134217728,
         a: packed / 262144 % 512,
@@ -70,10 +68,35 @@ pub fn node_at(table: &[u8], header: Header, n: usize) -> Node
     }
 }
 
+pub fn node_at(table: &[u8], header: Header, n: usize) -> Node
+    requires { ⌜ (header ≡ headerOf (now table)) × (4 * (2 + header .procedures + n) + 3 < length (now table)) ⌝ }
+    ensures { λ r. ⌜ r ≡ nodeAt (now (table .entry)) n ⌝ }
+{
+    unpacked(word(table, 2 + header.procedures + n))
+}
+
 // The kind alone, for a jump by it before any field is read.
+pub fn kind_of(packed: u32) -> u32
+    ensures { λ r. ⌜ r ≡ unpacked packed .kind ⌝ }
+{
+    packed / 134217728
+}
+
 pub fn kind_at(table: &[u8], header: Header, n: usize) -> u32
     requires { ⌜ (header ≡ headerOf (now table)) × (4 * (2 + header .procedures + n) + 3 < length (now table)) ⌝ }
     ensures { λ r. ⌜ r ≡ nodeAt (now (table .entry)) n .kind ⌝ }
 {
-    word(table, 2 + header.procedures + n) / 134217728
+    kind_of(word(table, 2 + header.procedures + n))
+}
+
+// The word of node n, whole. The test always holds; with it the compiler reads the word at once and not byte by byte, a field's bytes
+// where that field is asked for.
+pub fn packed_at(table: &[u8], header: Header, n: usize) -> u32
+    requires { ⌜ (header ≡ headerOf (now table)) × (4 * (2 + header .procedures + n) + 3 < length (now table)) × (n < header .nodes) ⌝ }
+    ensures { λ r. ⌜ unpacked r ≡ nodeAt (now (table .entry)) n ⌝ }
+{
+    if n < header.nodes {
+        return word(table, 2 + header.procedures + n);
+    }
+    n as u32
 }

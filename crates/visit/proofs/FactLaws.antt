@@ -1,9 +1,9 @@
--- The plane of facts, and what the fact and the refusal by 13 to 16 of a node are, by its kind, from the facts of its parts.
+-- The planes, and what the fact and the refusal by 13 to 16 of a node are, by its kind, from the facts of its parts.
 use mathlib.Core.Bool.{Bool, true, false, cond, not, _&&_, _||_, or-false, Bool·not-not}
 use mathlib.Core.List.{List}
 use mathlib.Core.Logic.{⊎-elim}
 use mathlib.Core.Path.{_≡_, refl, sym, _∙_}
-use Prim.Native.Nat.{ℕ, zero, suc, _+_, _-_, _≤_, _<_}
+use Prim.Native.Nat.{ℕ, suc, _+_, _-_, _≤_, _<_}
 use native.Mathlib.Decide.{decLt}
 use native.Mathlib.Omega.{arith}
 use lib.Dec.{leb}
@@ -21,46 +21,46 @@ use Rattle.rules.proofs.ChoiceLaws.{bool-cases}
 use Rattle.rules.proofs.KindLaws.{operation-of, by-kind}
 use Rattle.table.specs.Marks.{bitAt, withBit}
 use Rattle.table.proofs.BitLaws.{length-withBit, bit-same, bit-other, bit-zero}
-use Rattle.visit.specs.Facts.{fact, ruleCode, guardCode, FactsTo}
+use Rattle.visit.specs.Facts.{fact, ruleCode, guardCode, PlaneTo}
 use Rattle.visit.specs.Least.{none, code, failure}
 
--- the plane
+-- a plane
 
-pub facts-none : (table : List ℕ) → FactsTo table 0 (replicate 8 0)
-facts-none table =
+pub plane-none : (test : ℕ → Bool) → PlaneTo test 0 (replicate 8 0)
+plane-none test =
     record {
       size = length-replicate {A = ℕ} 8 0;
       known = λ k l. absurd (omega arith);
       clear = λ k h l. bit-zero 8 k;
     }
 
--- one node more is judged where its own bit is right and the others are kept
-module _ (table : List ℕ) (n : ℕ) (before after : List ℕ) (low : n < 256) (facts : FactsTo table n before) where
-  one-more : length after ≡ 8 → ((k : ℕ) → (k ≡ n → ⊥) → bitAt after k ≡ bitAt before k) → bitAt after n ≡ fact table n
-      → FactsTo table (n + 1) after
+-- it is known of one node more where that node's own bit is right and the others are kept
+module _ (test : ℕ → Bool) (n : ℕ) (before after : List ℕ) (low : n < 256) (plane : PlaneTo test n before) where
+  one-more : length after ≡ 8 → ((k : ℕ) → (k ≡ n → ⊥) → bitAt after k ≡ bitAt before k) → bitAt after n ≡ test n
+      → PlaneTo test (n + 1) after
   one-more size kept here =
       record {
         size = size;
         known = λ k l.
             elim (decLt k n) [
-              | yes below ↦ kept k (omega arith) ∙ facts .known k below
+              | yes below ↦ kept k (omega arith) ∙ plane .known k below
               | no above ↦ let same : k ≡ n = omega arith in rw same here
             ];
-        clear = λ k h l. kept k (omega arith) ∙ facts .clear k (omega arith) l;
+        clear = λ k h l. kept k (omega arith) ∙ plane .clear k (omega arith) l;
       }
 
-  pub facts-more : after ≡ cond (fact table n) (withBit before n) before → FactsTo table (n + 1) after
-  facts-more e =
+  pub plane-more : after ≡ cond (test n) (withBit before n) before → PlaneTo test (n + 1) after
+  plane-more e =
       ⊎-elim
-      (λ (t : fact table n ≡ true).
+      (λ (t : test n ≡ true).
       let marked : after ≡ withBit before n = e ∙ simp t in
-      one-more (rw marked (length-withBit before n ∙ facts .size)) (λ k other. rw marked (bit-other before n k other))
-      (rw (marked, t) (bit-same before n (omega (arith, facts .size)))))
-      (λ (f : fact table n ≡ false).
+      one-more (rw marked (length-withBit before n ∙ plane .size)) (λ k other. rw marked (bit-other before n k other))
+      (rw (marked, t) (bit-same before n (omega (arith, plane .size)))))
+      (λ (f : test n ≡ false).
       let same : after ≡ before = e ∙ simp f in
-      one-more (rw same (facts .size)) (λ k other. rw same)
-      (rw (same, f) (facts .clear n (omega arith) low)))
-      (bool-cases (fact table n))
+      one-more (rw same (plane .size)) (λ k other. rw same)
+      (rw (same, f) (plane .clear n (omega arith) low)))
+      (bool-cases (test n))
 
 -- a node and its parts
 

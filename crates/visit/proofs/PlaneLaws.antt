@@ -1,4 +1,5 @@
 -- The planes as parts that are lent: which words a part is, and the planes when it is back.
+use mathlib.Core.Bool.{Bool, true}
 use mathlib.Core.List.{List, _++_, append-nil}
 use mathlib.Core.Path.{_≡_, refl, sym, _∙_, ap}
 use Prim.Native.Nat.{ℕ, _≤_}
@@ -6,7 +7,8 @@ use native.Mathlib.Omega.{arith}
 use lib.ListN.{length, take, drop, length-drop, take-append-drop, drop-of-length-le}
 use lib.Seq.{length-take-le, take-all, take-at, take-take, take-append-le, drop-at, drop-drop, drop-append-le}
 use borrow.Rule.Slice.PartMut.{midOf, postOf, putMid, same-len-mid, take-put, drop-put}
-use Rattle.visit.specs.Fields.{planeWords, leavesFrom, allPlanes, usedPlane, factsPlane, leavesPlane}
+use Rattle.table.proofs.TestLaws.{never}
+use Rattle.visit.specs.Fields.{planeWords, leavesFrom, allPlanes, usedPlane, factsPlane, leavesPlane, Kept}
 
 -- the facts lie before the leaves
 facts-front : (planes : List ℕ) → leavesFrom ≤ length planes → factsPlane planes ≡ factsPlane (take leavesFrom planes)
@@ -97,3 +99,17 @@ module _ (planes : List ℕ) (size : length planes ≡ allPlanes) where
         (length-take-le leavesFrom planes (omega arith))
         ∙ ap (λ rest. words ++ rest) (drop-of-length-le (leavesPlane planes) {i = planeWords} (omega (arith, leaves-length)))
         ∙ append-nil words
+
+-- the plane of leaves, lent and back
+pub kept-none : (used : Bool) (planes : List ℕ) → length planes ≡ allPlanes → Kept used planes planes
+kept-none used planes size = record { size = size; same = λ e. refl; marks = refl; facts = refl }
+
+pub kept-put : (planes : List ℕ) (size : length planes ≡ allPlanes) (words : List ℕ) (many : length words ≡ planeWords)
+    → Kept true planes (putMid leavesFrom planeWords planes words)
+kept-put planes size words many =
+    record {
+      size = length-put-leaves planes size words many;
+      same = λ e. never e;
+      marks = used-put-leaves planes size words many;
+      facts = facts-put-leaves planes size words many;
+    }

@@ -1,18 +1,18 @@
--- The quick case: fields that are free by their roles pass questions 8 and 9, name nodes that were not used, and are enclosed.
+-- The quick case: fields that are free by their roles pass questions 8 and 9, name nodes that were not used, and call below the limit.
 use mathlib.Core.Bool.{Bool, true, false, not, _&&_, _||_}
 use mathlib.Core.List.{List, [], _∷_, _++_}
 use mathlib.Core.Logic.{_⊎_, ⊎-elim}
 use mathlib.Core.Path.{_≡_, refl, sym, _∙_, ap}
-use Prim.Native.Nat.{ℕ, zero, suc, _-_, _≤_, _<_}
-use native.Mathlib.Decide.{decLt, ℕ-discrete}
+use Prim.Native.Nat.{ℕ, zero, _-_, _<_}
+use native.Mathlib.Decide.{ℕ-discrete}
 use native.Mathlib.Omega.{arith}
 use lib.Dec.{leb, eqb}
 use lib.ListN.{getD}
-use borrow.Author.Tests.{ltb-true, leb-true, not-true, eqb-false, ne-eqb}
+use borrow.Author.Tests.{ltb-true, not-true, eqb-false, ne-eqb}
 use Rattle.rules.specs.declared.Node.{Node}
 use Rattle.rules.specs.Table.{Statement, nothing, assign, sequence, branch, loop, call, latch, collective, leave}
 use Rattle.rules.specs.Table.{nodeAt, statementOf, statementAt, firstStatement, lastExpression, lastStatement}
-use Rattle.rules.specs.WellFormed.{isExpression, isStatement, kindKnown, unnamedZero, nodeFits, partsAt, occurrences}
+use Rattle.rules.specs.WellFormed.{isExpression, isStatement, kindKnown, unnamedZero, nodeFits, partsAt}
 use Rattle.rules.proofs.AnswerLaws.{both-left, both-right}
 use Rattle.rules.proofs.ChoiceLaws.{bool-cases}
 use Rattle.rules.proofs.KindLaws.{call-of, by-kind}
@@ -20,15 +20,15 @@ use Rattle.table.specs.declared.Header.{Header}
 use Rattle.table.specs.Marks.{bitAt, withBit, withBits}
 use Rattle.table.specs.Roles.{roles, digit, roleOf, isPart, fieldZero, fieldFits, fieldParts}
 use Rattle.table.specs.Sized.{Sized}
-use Rattle.table.specs.Uses.{Enclosed}
+use Rattle.table.specs.Uses.{CallsBelow}
 use Rattle.table.proofs.BitLaws.{bit-other}
 use Rattle.table.proofs.FittingLaws.{part-below, fields-fit}
 use Rattle.table.proofs.RoleLaws.{zero-law, fits-law, parts-law}
 use Rattle.table.proofs.TestLaws.{never}
-use Rattle.table.proofs.UseLaws.{bits-append, occurrences-append}
+use Rattle.table.proofs.UseLaws.{bits-append}
 use Rattle.visit.specs.declared.Visit.{Visit}
 use Rattle.visit.specs.Exact.{notedCode, repeatedCode}
-use Rattle.visit.specs.Fields.{enclosed, fieldFree, distinct, fieldsFree, threeParts, Used}
+use Rattle.visit.specs.Fields.{within, fieldFree, distinct, fieldsFree, threeParts, Used}
 use Rattle.visit.specs.Quick.{Quick}
 
 pub codes-append : (m : List ℕ) (best : ℕ) (a b : List ℕ)
@@ -61,18 +61,13 @@ free-kept m r x s y free apart part =
     (λ (e : isPart r ≡ false). simp e (free part))
     (bool-cases (isPart r))
 
--- a part is no procedure
-part-apart : (role : ℕ) → isPart role ≡ true → eqb role 4 ≡ false
-part-apart role part =
-    ne-eqb role 4 (λ four. let none : false ≡ true = rw four at part in never (sym none))
-
 -- what the test of a field says
 module _ (table m : List ℕ) (v : Visit) (role value : ℕ) (h : fieldFree table m v role value ≡ true) where
   abbrev fits : Bool
   fits = fieldFits table (v .node) role value
 
   abbrev inside : Bool
-  inside = enclosed (v .low) (v .limit) role value
+  inside = within (v .limit) role value
 
   abbrev unmarked : Bool
   unmarked = not (isPart role) || not (bitAt m value)
@@ -233,21 +228,9 @@ call-role : {kind : ℕ} → kind ≡ 21 → roleOf kind 100 ≡ 4
 unfolding roleOf roles
 call-role e = rw e
 
--- what a field says of the bounds
-module _ (low limit role value : ℕ) (inside : enclosed low limit role value ≡ true) where
-  none-below : (a : ℕ) → a < low → occurrences a (fieldParts role value) ≡ 0
-  unfolding enclosed fieldParts occurrences
-  none-below a under =
-      ⊎-elim
-      (λ (e : isPart role ≡ true).
-      let above = leb-true low value (simp (part-apart role e, e) at inside) in
-      simp (e, ne-eqb value a (λ same. omega arith)))
-      (λ (e : isPart role ≡ false). simp e)
-      (bool-cases (isPart role))
-
-  procedure-below : role ≡ 4 → value < limit
-  unfolding enclosed
-  procedure-below four = ltb-true value limit (rw four at inside)
+procedure-below : (limit role value : ℕ) → within limit role value ≡ true → role ≡ 4 → value < limit
+unfolding within
+procedure-below limit role value inside four = ltb-true value limit (rw four at inside)
 
 -- what `quick` promises of a node whose fields are free
 
@@ -290,39 +273,18 @@ module _ (table : List ℕ) (v : Visit) (m : Node) (here : m ≡ nodeAt table (v
           used = u .used ∙ ap (withBits before) (sym parts-are);
         }
 
-    module _ (free : fieldsFree table before v m roles ≡ true) where
-      parts-inside : (a : ℕ) → 0 < occurrences a (partsAt table (v .node)) → v .low ≤ a
-      parts-inside a occurs =
-          let t = three table before v m roles free in
-          let some = rw (parts-are, occurrences-append, occurrences-append) at occurs in
-          elim (decLt a (v .low)) [
-            | yes under ↦
-                absurd
-                (omega (
-                  arith,
-                  some,
-                  none-below _ _ _ _ (free-inside _ _ _ _ _ (t .a)) a under,
-                  none-below _ _ _ _ (free-inside _ _ _ _ _ (t .b)) a under,
-                  none-below _ _ _ _ (free-inside _ _ _ _ _ (t .c)) a under,
-                ))
-            | no over ↦ omega arith
-          ]
-
-      calls-inside : (q : ℕ) → statementAt table (v .node) ≡ call q → q < v .limit
-      unfolding statementAt
-      calls-inside q s =
-          let is : statementOf m ≡ call q = ap statementOf here ∙ s in
-          elim (ℕ-discrete (m .kind) 21) [
-            | yes e ↦
-                let t = three table before v m roles free in
-                let same : m .a ≡ q = cc (call-of m e) in
-                let four = sym named-a ∙ call-role e in
-                rw same at (procedure-below _ _ _ _ (free-inside _ _ _ _ _ (t .a)) four)
-            | no other ↦ absurd (no-call m other q is)
-          ]
-
-      pub enclosed-by : Enclosed table (v .node) (v .low) (v .limit)
-      enclosed-by = record { parts = parts-inside; calls = calls-inside }
+    pub calls-below : fieldsFree table before v m roles ≡ true → CallsBelow table (v .node) (v .limit)
+    unfolding statementAt
+    calls-below free q s =
+        let is : statementOf m ≡ call q = ap statementOf here ∙ s in
+        elim (ℕ-discrete (m .kind) 21) [
+          | yes e ↦
+              let t = three table before v m roles free in
+              let same : m .a ≡ q = cc (call-of m e) in
+              let four = sym named-a ∙ call-role e in
+              rw same at (procedure-below _ _ _ (free-inside _ _ _ _ _ (t .a)) four)
+          | no other ↦ absurd (no-call m other q is)
+        ]
 
 -- the kinds, as the match has them
 

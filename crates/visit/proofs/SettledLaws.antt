@@ -3,7 +3,7 @@ use mathlib.Core.Bool.{Bool, true, false, cond, not, _&&_, _||_}
 use mathlib.Core.List.{List}
 use mathlib.Core.Logic.{_⊎_, ⊎-elim}
 use mathlib.Core.Path.{_≡_, refl, sym, _∙_, ap}
-use Prim.Native.Nat.{ℕ, _+_, _%_, _≤_, _<_}
+use Prim.Native.Nat.{ℕ, _+_, _%_, _<_}
 use native.Mathlib.Omega.{arith}
 use lib.Dec.{leb, ltb, eqb}
 use lib.ListN.{length}
@@ -26,7 +26,7 @@ use Rattle.visit.specs.Facts.{fact, guardCode, FactsTo, sourced, ruled, 
 use Rattle.visit.specs.Fields.{factsPlane, allPlanes}
 use Rattle.visit.specs.Least.{none, code}
 use Rattle.visit.proofs.FactLaws.{once, fact-as, fact-1, fact-5, fact-operation, fact-17, fact-18, fact-19, fact-20}
-use Rattle.visit.proofs.FactLaws.{fact-24, facts-more, rule-none, rule-17, rule-19, rule-20, rule-24}
+use Rattle.visit.proofs.FactLaws.{fact-24, plane-more, rule-none, rule-17, rule-19, rule-20, rule-24}
 use Rattle.visit.proofs.LeastLaws.{passed, failed}
 use Rattle.visit.proofs.PlaneLaws.{facts-length, used-put-facts, facts-put-facts, leaves-put-facts, length-put-facts}
 
@@ -41,35 +41,26 @@ module _ (table : List ℕ) (v : Visit) (m : Node) (used : Bool) (source questio
       let e = not-true used u in
       record { answer = simp e; marks = refl; leaves = refl; facts = simp e; same = λ _. refl; size = size }
 
-  pub settled-unjudged : not used ≡ false → not (v .judged) ≡ true
-      → Settled table v m used source question guard before before none
-  settled-unjudged u w =
-      let e = not-false used u in
-      let j = not-true (v .judged) w in
-      record { answer = simp (e, j); marks = refl; leaves = refl; facts = simp (e, j); same = λ _. refl; size = size }
-
   -- t is what `fact_from` answered
-  module _ {t : Bool} (u : not used ≡ false) (w : not (v .judged) ≡ false) (from : t ≡ found) where
+  module _ {t : Bool} (u : not used ≡ false) (from : t ≡ found) where
     pub settled-still : not t ≡ true → Settled table v m used source question guard before before none
     settled-still h =
         let e = not-false used u in
-        let j = not-false (v .judged) w in
         let f = failed from h in
-        record { answer = simp (e, j, f); marks = refl; leaves = refl; facts = simp (e, j, f); same = λ _. refl; size = size }
+        record { answer = simp (e, f); marks = refl; leaves = refl; facts = simp (e, f); same = λ _. refl; size = size }
 
     pub settled-marked : not t ≡ false → (words : List ℕ) (r : ℕ) → words ≡ withBit (factsPlane before) (v .node)
         → r ≡ ruled (bitAt (factsPlane before) (guard % 256)) question (v .node)
         → Settled table v m used source question guard before (putMid 8 8 before words) r
     settled-marked h words r made q =
         let e = not-false used u in
-        let j = not-false (v .judged) w in
         let f = passed from h in
         let many : length words ≡ 8 = ap length made ∙ length-withBit (factsPlane before) (v .node) ∙ facts-length before size in
         record {
-          answer = simp (e, j, f) q;
+          answer = simp (e, f) q;
           marks = used-put-facts before size words many;
           leaves = leaves-put-facts before size words many;
-          facts = facts-put-facts before size words many ∙ simp (e, j, f) made;
+          facts = facts-put-facts before size words many ∙ simp (e, f) made;
           same = λ unused. never (sym e ∙ unused);
           size = length-put-facts before size words many;
         }
@@ -279,53 +270,31 @@ some-rule local question n =
     (bool-cases local))
     (bool-cases (eqb question 0))
 
-ruled-high : (local : Bool) (question n : ℕ) → question < 17 → n < 256 → ruled local question n ≤ none
-unfolding ruled
-ruled-high local question n asked few =
-    ⊎-elim (λ (z : eqb question 0 ≡ true). simp z (omega arith))
-    (λ (z : eqb question 0 ≡ false).
-    ⊎-elim (λ (l : local ≡ true). simp (z, l) (omega arith)) (λ (l : local ≡ false). simp (z, l) (omega arith))
-    (bool-cases local))
-    (bool-cases (eqb question 0))
-
 module _ (table : List ℕ) (v : Visit) (m : Node) (used : Bool) (source question guard : ℕ) (before after : List ℕ) (r : ℕ)
     (s : Settled table v m used source question guard before after r) where
   pub settled-used : (r ≡ 0 → ⊥) → used ≡ true
   settled-used h =
       ⊎-elim (λ (e : used ≡ true). e) (λ (e : used ≡ false). absurd (h (s .answer ∙ simp e))) (bool-cases used)
 
-  pub settled-high : question < 17 → v .node < 256 → r ≤ none
-  settled-high asked few =
-      let high = ruled-high (bitAt (factsPlane before) (guard % 256)) question (v .node) asked few in
-      rw (s .answer)
-      (⊎-elim
-      (λ (e : used ≡ true).
-      ⊎-elim
-      (λ (f : (v .judged && sourced table (factsPlane before) m source) ≡ true). simp (e, f) high)
-      (λ (f : (v .judged && sourced table (factsPlane before) m source) ≡ false). simp (e, f) (omega arith))
-      (bool-cases (v .judged && sourced table (factsPlane before) m source)))
-      (λ (e : used ≡ false). simp e (omega arith))
-      (bool-cases used))
-
   pub settled-unused : r ≡ 0 → used ≡ false
   settled-unused h =
       ⊎-elim
       (λ (e : used ≡ true).
       ⊎-elim
-      (λ (f : (v .judged && sourced table (factsPlane before) m source) ≡ true).
+      (λ (f : sourced table (factsPlane before) m source ≡ true).
       absurd (some-rule (bitAt (factsPlane before) (guard % 256)) question (v .node) (simp (e, f) at (sym (s .answer) ∙ h))))
-      (λ (f : (v .judged && sourced table (factsPlane before) m source) ≡ false).
+      (λ (f : sourced table (factsPlane before) m source ≡ false).
       let z : none ≡ 0 = simp (e, f) at (sym (s .answer) ∙ h) in absurd (omega arith))
-      (bool-cases (v .judged && sourced table (factsPlane before) m source)))
+      (bool-cases (sourced table (factsPlane before) m source)))
       (λ (e : used ≡ false). e)
       (bool-cases used)
 
-  pub settled-judged : m ≡ nodeAt table (v .node) → used ≡ true → v .judged ≡ true → v .node < 256
+  pub settled-judged : m ≡ nodeAt table (v .node) → used ≡ true → v .node < 256
       → FactsTo table (v .node) (factsPlane before)
       → Judges table (v .node) (factsPlane before) source question guard
       → FactsTo table (v .node + 1) (factsPlane after) × (r ≡ guardCode table (v .node))
-  settled-judged here e j l known judges =
+  settled-judged here e l known judges =
       let found : sourced table (factsPlane before) m source ≡ fact table (v .node) = rw here (judges .fact-is) in (
-        facts-more table (v .node) (factsPlane before) (factsPlane after) l known (s .facts ∙ simp (e, j, found)),
-        s .answer ∙ simp (e, j, found) (judges .rule-is),
+        plane-more (fact table) (v .node) (factsPlane before) (factsPlane after) l known (s .facts ∙ simp (e, found)),
+        s .answer ∙ simp (e, found) (judges .rule-is),
       )

@@ -1,5 +1,5 @@
--- The stuck case: where a field is not free and no block bounds the node, one of questions 7, 8, 9 and 11 fails at it.
-use mathlib.Core.Bool.{true, false, or-true}
+-- The stuck case: where a field is not free and a call may name any procedure, one of questions 7, 8, 9 and 11 fails at it.
+use mathlib.Core.Bool.{true, false}
 use mathlib.Core.List.{List, [], _∷_}
 use mathlib.Core.Logic.{⊎-elim}
 use mathlib.Core.Path.{_≡_, sym, _∙_, ap}
@@ -8,7 +8,7 @@ use native.Mathlib.Decide.{decLt}
 use native.Mathlib.Omega.{arith}
 use lib.Dec.{eqb}
 use lib.ListN.{length}
-use borrow.Author.Tests.{eqb-true, le-leb, ne-eqb}
+use borrow.Author.Tests.{eqb-true, ne-eqb}
 use Rattle.rules.specs.declared.Node.{Node}
 use Rattle.rules.specs.Table.{procedures, nodeAt}
 use Rattle.rules.specs.WellFormed.{kindKnown, unnamedZero, nodeFits, partsAt}
@@ -21,7 +21,7 @@ use Rattle.table.proofs.TestLaws.{never, all-three}
 use Rattle.table.proofs.UseLaws.{length-withBits}
 use Rattle.visit.specs.declared.Visit.{Visit}
 use Rattle.visit.specs.Exact.{notedCode, repeatedCode, nodeBest}
-use Rattle.visit.specs.Fields.{enclosed, fieldFree, distinct, fieldsFree}
+use Rattle.visit.specs.Fields.{within, fieldFree, distinct, fieldsFree}
 use Rattle.visit.specs.Least.{none}
 use Rattle.visit.proofs.QuickLaws.{codes-append, Free, three-free, Named, known-is, zero-is, fits-is, parts-are}
 
@@ -78,17 +78,17 @@ module _ (m : List ℕ) (size : length m ≡ 8) (r x s y : ℕ) (few : isPart r 
       (λ (e : isPart r ≡ false). simp e)
       (bool-cases (isPart r))
 
--- a field that fits is free if what it names was not marked, where no block bounds the node
-module _ (table marks : List ℕ) (v : Visit) (low : v .low ≡ 0) (all : v .limit ≡ procedures table) (role value : ℕ)
+-- a field that fits is free if what it names was not marked, where a call may name any procedure
+module _ (table marks : List ℕ) (v : Visit) (all : v .limit ≡ procedures table) (role value : ℕ)
     (zero : fieldZero role value ≡ true) (fits : fieldFits table (v .node) role value ≡ true) where
-  unbound : enclosed (v .low) (v .limit) role value ≡ true
-  unfolding enclosed fieldFits
+  unbound : within (v .limit) role value ≡ true
+  unfolding within fieldFits
   unbound =
       ⊎-elim
       (λ (e : eqb role 4 ≡ true).
       let four : role ≡ 4 = eqb-true role 4 e in
       rw (four, all) (rw four at fits))
-      (λ (e : eqb role 4 ≡ false). simp (e, low, le-leb 0 value (omega arith), or-true))
+      (λ (e : eqb role 4 ≡ false). simp e)
       (bool-cases (eqb role 4))
 
   free-field : Free marks role value → fieldFree table marks v role value ≡ true
@@ -105,7 +105,7 @@ unfolding nodeBest
 stuck-kind table v before few unknown best high = simp unknown (omega arith)
 
 module _ (table : List ℕ) (v : Visit) (m : Node) (here : m ≡ nodeAt table (v .node)) (roles : ℕ) (named : Named (m .kind) roles)
-    (before : List ℕ) (size : length before ≡ 8) (few : v .node < 256) (low : v .low ≡ 0) (all : v .limit ≡ procedures table)
+    (before : List ℕ) (size : length before ≡ 8) (few : v .node < 256) (all : v .limit ≡ procedures table)
     (best : ℕ) (high : best ≤ none) where
   abbrev ra : ℕ
   ra = digit roles 100
@@ -180,12 +180,12 @@ module _ (table : List ℕ) (v : Visit) (m : Node) (here : m ≡ nodeAt table (v
         let few-a = part-few ra (m .a) (fit .0) in
         three-free table before v m roles
         (record {
-          a = free-field table before v low all ra (m .a) (zeros .0) (fit .0) a-free;
+          a = free-field table before v all ra (m .a) (zeros .0) (fit .0) a-free;
           b =
-              free-field table before v low all rb (m .b) (zeros .1) (fit .1)
+              free-field table before v all rb (m .b) (zeros .1) (fit .1)
               (free-back before size ra (m .a) rb (m .b) few-a b-free);
           c =
-              free-field table before v low all rc (m .c) (zeros .2) (fit .2)
+              free-field table before v all rc (m .c) (zeros .2) (fit .2)
               (free-back before size ra (m .a) rc (m .c) few-a c-free-a);
           a-b = distinct-back before size ra (m .a) rb (m .b) few-a b-free;
           a-c = distinct-back before size ra (m .a) rc (m .c) few-a c-free-a;

@@ -34,11 +34,18 @@ guardCode table n =
 unfoldable pub flagCode : List ℕ → ℕ → ℕ
 flagCode table p = failure 17 p (bodyFlagged table p)
 
--- the plane of facts once the nodes below n are judged: one bit for each, and none from there on
-pub record FactsTo (table : List ℕ) (n : ℕ) (facts : List ℕ) : Type 0 where
-  pub size : length facts ≡ planeWords
-  pub known : (k : ℕ) → k < n → bitAt facts k ≡ fact table k
-  pub clear : (k : ℕ) → n ≤ k → k < 256 → bitAt facts k ≡ false
+-- the plane of a test once it is known of the nodes below n: one bit for each, and none from there on
+pub record PlaneTo (test : ℕ → Bool) (n : ℕ) (plane : List ℕ) : Type 0 where
+  pub size : length plane ≡ planeWords
+  pub known : (k : ℕ) → k < n → bitAt plane k ≡ test k
+  pub clear : (k : ℕ) → n ≤ k → k < 256 → bitAt plane k ≡ false
+
+-- of facts, and of leaves
+abbrev pub FactsTo : List ℕ → ℕ → List ℕ → Type 0
+FactsTo table = PlaneTo (fact table)
+
+abbrev pub NotedTo : List ℕ → ℕ → List ℕ → Type 0
+NotedTo table = PlaneTo (λ n. eqb (nodeAt table n .kind) 26)
 
 -- where a node's fact comes from: nowhere, from the kind alone, from a variable's flag, from a procedure's, from parts. A field
 -- is read as a variable below 32 or as a node below 256, which it is where the node fits.
@@ -70,12 +77,12 @@ pub record Settled (table : List ℕ) (v : Visit) (m : Node) (used : Bool) (sour
     (r : ℕ) : Type 0 where
   pub answer : r
       ≡ cond used
-      (cond (v .judged && sourced table (factsPlane before) m source)
+      (cond (sourced table (factsPlane before) m source)
       (ruled (bitAt (factsPlane before) (guard % 256)) question (v .node)) none)
       0
   pub marks : usedPlane after ≡ usedPlane before
   pub facts : factsPlane after
-      ≡ cond (used && (v .judged && sourced table (factsPlane before) m source)) (withBit (factsPlane before) (v .node))
+      ≡ cond (used && sourced table (factsPlane before) m source) (withBit (factsPlane before) (v .node))
       (factsPlane before)
   pub leaves : leavesPlane after ≡ leavesPlane before
   pub same : used ≡ false → after ≡ before

@@ -3,22 +3,22 @@ use mathlib.Core.Bool.{Bool, true, false, cond, not, _&&_, _||_}
 use mathlib.Core.List.{List, _++_}
 use mathlib.Core.Path.{_≡_}
 use Prim.Native.Nat.{ℕ, _+_, _*_}
-use lib.Dec.{leb, ltb, eqb}
+use lib.Dec.{ltb, eqb}
 use lib.ListN.{length, take, drop}
 use Rattle.rules.specs.declared.Node.{Node}
 use Rattle.table.specs.Marks.{bitAt, withBits}
 use Rattle.table.specs.Roles.{digit, isPart, fieldZero, fieldFits, fieldParts}
 use Rattle.visit.specs.declared.Visit.{Visit}
 
--- a procedure that is called is below the limit, and a part is at or above the lowest
-unfoldable pub enclosed : ℕ → ℕ → ℕ → ℕ → Bool
-enclosed low limit role value = cond (eqb role 4) (ltb value limit) (not (isPart role) || leb low value)
+-- a procedure that is called is below the limit
+unfoldable pub within : ℕ → ℕ → ℕ → Bool
+within limit role value = cond (eqb role 4) (ltb value limit) true
 
 unfoldable pub fieldFree : List ℕ → List ℕ → Visit → ℕ → ℕ → Bool
 fieldFree table marks v role value =
     fieldZero role value
     && (fieldFits table (v .node) role value
-    && (enclosed (v .low) (v .limit) role value && (not (isPart role) || not (bitAt marks value))))
+    && (within (v .limit) role value && (not (isPart role) || not (bitAt marks value))))
 
 -- two fields do not name one node
 unfoldable pub distinct : ℕ → ℕ → ℕ → ℕ → Bool
@@ -71,3 +71,10 @@ pub record Fields (table : List ℕ) (v : Visit) (m : Node) (roles : ℕ) (befor
   pub facts : factsPlane after ≡ factsPlane before
   pub leaves : leavesPlane after ≡ leavesPlane before
   pub size : length after ≡ allPlanes
+
+-- nothing but the plane of leaves is another, and nothing at all where the fields were not taken
+pub record Kept (used : Bool) (before after : List ℕ) : Type 0 where
+  pub size : length after ≡ allPlanes
+  pub same : used ≡ false → after ≡ before
+  pub marks : usedPlane after ≡ usedPlane before
+  pub facts : factsPlane after ≡ factsPlane before

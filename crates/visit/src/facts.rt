@@ -1,6 +1,6 @@
 // The facts, a bit a node: an expression that is not single, or a statement with a global effect. A rule of 13 to 16 fails where a
 // statement has an effect and the expression that guards it is not single.
-ghost use mathlib.Core.Bool.{true, cond, _||_};
+ghost use mathlib.Core.Bool.{true, _||_};
 ghost use mathlib.Core.Path.{_≡_};
 ghost use Prim.Native.Nat.{_%_, _<_};
 ghost use lib.ListN.{length};
@@ -94,14 +94,11 @@ pub fn settled(
     if !used {
         return STUCK;
     }
-    if !visit.judged {
-        return NONE;
-    }
     if !fact_from(table, planes, visit, node, source) {
         return NONE;
     }
     let local = fact(planes, guard);
-    mark(&mut planes[PLANE..LEAVES], visit.node);
+    mark(&mut planes[PLANE..LEAVES], visit.node % 256);
     ruled(local, question, visit.node)
 }
 

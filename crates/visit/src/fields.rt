@@ -3,10 +3,10 @@ ghost use mathlib.Core.Bool.{true, false};
 ghost use mathlib.Core.Path.{_≡_};
 ghost use Prim.Native.Nat.{_<_};
 ghost use lib.ListN.{length};
-ghost use Rattle.table.specs.Marks.{bitAt, withBits};
+ghost use Rattle.table.specs.Marks.{withBits};
 ghost use Rattle.table.specs.Roles.{digit, isPart, fieldParts};
 ghost use Rattle.table.specs.Sized.{Sized};
-ghost use Rattle.visit.specs.Fields.{enclosed, fieldFree, distinct, fieldsFree, Used, Fields, allPlanes, planeWords};
+ghost use Rattle.visit.specs.Fields.{within, fieldFree, distinct, fieldsFree, Used, Fields, allPlanes, planeWords};
 use crate::PLANE;
 use crate::Visit;
 use rules::Node;
@@ -18,17 +18,14 @@ use table::fields::digit;
 use table::fields::field_fits;
 use table::fields::field_zero;
 use table::fields::is_part;
+use table::marks::mark;
 use table::marks::marked;
-use table::marks::put;
 
-fn enclosed(visit: Visit, role: u16, value: usize) -> bool
-    ensures { λ r. ⌜ r ≡ enclosed (visit .low) (visit .limit) role value ⌝ }
+fn within(visit: Visit, role: u16, value: usize) -> bool
+    ensures { λ r. ⌜ r ≡ within (visit .limit) role value ⌝ }
 {
     if role == PROCEDURE {
         return value < visit.limit;
-    }
-    if is_part(role) {
-        return visit.low <= value;
     }
     true
 }
@@ -43,7 +40,7 @@ fn field_free(table: &[u8], marks: &[u32], visit: Visit, role: u16, value: u32) 
     if !field_fits(table, visit.header, visit.node, role, value as usize) {
         return false;
     }
-    if !enclosed(visit, role, value as usize) {
+    if !within(visit, role, value as usize) {
         return false;
     }
     if is_part(role) {
@@ -87,11 +84,11 @@ fn fields_free(table: &[u8], marks: &[u32], visit: Visit, node: Node, roles: u16
 }
 
 fn take(marks: &mut [u32], role: u16, value: usize)
-    requires { ⌜ (isPart role ≡ true → (value < 256) × (bitAt (now marks) value ≡ false)) × (length (now marks) ≡ planeWords) ⌝ }
+    requires { ⌜ (isPart role ≡ true → value < 256) × (length (now marks) ≡ planeWords) ⌝ }
     ensures { λ _. ⌜ now (marks .exit) ≡ withBits (now (marks .entry)) (fieldParts role value) ⌝ }
 {
     if is_part(role) {
-        put(marks, value);
+        mark(marks, value);
     }
 }
 

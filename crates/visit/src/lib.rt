@@ -6,14 +6,13 @@ pub mod exact; // exact.rt: what exactly fails at a node
 pub mod facts; // facts.rt: what questions 13 to 17 go by, a bit a node
 pub mod fields; // fields.rt: the fields of a node at which nothing fails
 pub mod least; // least.rt: refusals as numbers
+pub mod noted; // noted.rt: the leaves, a bit a node
 
-// A visit of a node: its parts lie from `low` on, and it calls procedures below `limit`; it is put to 13 to 16 if it is judged.
+// A visit of a node, which may call procedures below `limit`.
 pub struct Visit {
     pub header: Header,
     pub node: usize,
-    pub low: usize,
     pub limit: usize,
-    pub judged: bool,
 }
 
 // The words of a plane, a bit for each of 256 nodes, and of the planes: the nodes used, the facts, and the leaves.

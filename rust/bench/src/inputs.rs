@@ -36,6 +36,18 @@ fn table_of(nodes: usize, procedures: usize, piece: Piece) -> Builder {
     table
 }
 
+/// An accepted table of statements only: one procedure, a row of so many that do nothing.
+pub fn statements(row: usize) -> Builder {
+    let mut table = Builder::new(VARIABLES as u32, &[]);
+    let mut body = table.nothing();
+    for _ in 1..row {
+        let next = table.nothing();
+        body = table.sequence(body, next);
+    }
+    table.procedure(body, false);
+    table
+}
+
 /// The same table with the nodes of all procedures mixed. Before, each procedure's lay together.
 pub fn out_of_order(table: &Builder) -> Builder {
     renumber(table, &mut Random::new(1))

@@ -10,7 +10,7 @@ mod work;
 
 use std::hint::black_box;
 use std::time::{Duration, Instant};
-use work::{Side, Work, FULL_CHECK, LIBRARY, NATIVE};
+use work::{Side, Work, LIBRARY, NATIVE};
 
 const ROUNDS: usize = 101;
 /// A round repeats short work for at least so long, as the clock is coarse.
@@ -34,12 +34,14 @@ fn main() {
     }
     let (refused, rows) = parted(rows, |work| work.refused_by.is_some());
     let (turns, calls) = parted(rows, Work::is_of_turns);
-    let accepted = time_of(&calls, |work| work.what == FULL_CHECK);
     print_table(&calls, "ns a table word", Row::time_a_word);
     print_table(&turns, "of steps", |row| {
         row.library_time() / time_of(&turns, |work| work.is_steps_of(&row.library))
     });
-    print_table(&refused, "of accepted", |row| row.library_time() / accepted);
+    print_table(&refused, "of accepted", |row| {
+        let accepted = row.library.refused_by.map(|(_, accepted)| accepted);
+        row.library_time() / time_of(&calls, |work| Some(work.what.as_str()) == accepted)
+    });
     print_notes();
 }
 
@@ -82,7 +84,8 @@ fn print_notes() {
     );
     println!("one for each step.");
     println!("Of steps: the library's time, divided by its time for the same turns, a call each.");
-    println!("Of accepted: the library's time, divided by its time for `{FULL_CHECK}`.");
+    println!("A refused table is an accepted one with a word changed. Of accepted: the library's");
+    println!("time, divided by its time for that one.");
 }
 
 impl Row {

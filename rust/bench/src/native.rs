@@ -2,6 +2,7 @@
 //! and state and roll are changed in place.
 
 mod machine;
+mod planes;
 mod reader;
 mod refusal;
 mod scheduler;

@@ -1,10 +1,18 @@
-//! Tables of 256 nodes and 16 procedures that are refused. Each is the accepted one with one word
-//! changed, so that one question fails first, as late in the table as it can. One is then mixed.
+//! Tables that are refused. Each is an accepted one with a word changed, so that one question fails
+//! first, as late in the table as it can.
 
 use crate::inputs;
+use finchchaise::SCRATCH_WORDS;
 use finchchaise_samples::{bytes, Builder};
 
+/// The checks that are accepted, with which the refused ones are compared.
+pub const FULL: &str = "check, N 256, P 16";
+pub const MIXED: &str = "check, N 256, P 16, out of order";
+pub const STATEMENTS: &str = "check, N 255, P 1, statements only";
+
 const HEADER: usize = 0;
+const ONE_NODE_LESS: u32 = 1 << 28 | 2 << 22 | 16 << 17 | 255 << 8;
+const FLAGS: usize = 1;
 const MAIN_PROCEDURE: usize = 17;
 const MAIN_BODY: u32 = 255 << 24;
 const EFFECT: u32 = 1 << 23;
@@ -12,19 +20,48 @@ const EFFECT: u32 = 1 << 23;
 pub struct Refused {
     /// The question that fails first.
     pub number: u32,
+    /// The check of the table without the change.
+    pub accepted: &'static str,
     /// Tells a question's second table from its first, in the row's name.
     pub how: &'static str,
     pub table: Vec<u8>,
 }
 
-/// In the order of the questions. 2 to 5 only look at the length and the first two words.
+impl Refused {
+    /// Too few for the question about them.
+    pub fn scratch_words(&self) -> usize {
+        match self.number {
+            1 => SCRATCH_WORDS - 1,
+            _ => SCRATCH_WORDS,
+        }
+    }
+}
+
+/// In the order of the questions.
 pub fn all() -> Vec<Refused> {
-    let refused = |number, how, table| Refused { number, how, table };
-    // The main procedure calls itself, where it did nothing.
-    let calling = changed(249, [21, 15, 0, 0]);
-    let mixed = inputs::out_of_order(&calling);
+    let mut all = of_the_whole();
+    all.extend(of_contents());
+    all
+}
+
+/// 1 to 5 only look at lengths and the first two words.
+fn of_the_whole() -> Vec<Refused> {
+    let lengthened = |count| [inputs::table(256, 16).bytes(), vec![0; count]].concat();
     vec![
+        refused(1, "", lengthened(0)),
+        refused(2, "", lengthened(1)),
         refused(3, "", with_word(HEADER, 0)),
+        refused(4, "", with_word(HEADER, ONE_NODE_LESS)),
+        refused(5, "", with_word(FLAGS, 1)),
+    ]
+}
+
+fn of_contents() -> Vec<Refused> {
+    // The main procedure calls itself, where it did nothing.
+    let calling = changed(inputs::table(256, 16), 249, [21, 15, 0, 0]);
+    let mixed = inputs::out_of_order(&calling);
+    let row = changed(inputs::statements(128), 253, [21, 0, 0, 0]);
+    vec![
         refused(6, "", with_word(MAIN_PROCEDURE, MAIN_BODY | EFFECT | 1)),
         // The main body, a while, gets a kind that is unknown, a field C, itself as its body.
         refused(7, "", with_node(255, [28, 240, 254, 0])),
@@ -37,7 +74,8 @@ pub fn all() -> Vec<Refused> {
         // An exchange becomes a barrier, which has no value.
         refused(11, ", node never used", with_node(252, [23, 0, 0, 0])),
         refused(12, "", calling.bytes()),
-        refused(12, ", out of order", mixed.bytes()),
+        compared_with(MIXED, refused(12, "", mixed.bytes())),
+        compared_with(STATEMENTS, refused(12, "", row.bytes())),
         // The last call leaves, in a procedure that has no loop.
         refused(26, "", with_node(219, [26, 0, 0, 0])),
         // The single variable takes a sum that is not.
@@ -52,15 +90,30 @@ pub fn all() -> Vec<Refused> {
     ]
 }
 
+fn refused(number: u32, how: &'static str, table: Vec<u8>) -> Refused {
+    Refused {
+        number,
+        accepted: FULL,
+        how,
+        table,
+    }
+}
+
+fn compared_with(accepted: &'static str, refused: Refused) -> Refused {
+    Refused {
+        accepted,
+        ..refused
+    }
+}
+
 /// A node is its kind, A, B and C.
-fn changed(number: usize, node: [u32; 4]) -> Builder {
-    let mut table = inputs::table(256, 16);
+fn changed(mut table: Builder, number: usize, node: [u32; 4]) -> Builder {
     table.nodes[number] = node;
     table
 }
 
 fn with_node(number: usize, node: [u32; 4]) -> Vec<u8> {
-    changed(number, node).bytes()
+    changed(inputs::table(256, 16), number, node).bytes()
 }
 
 fn with_word(place: usize, word: u32) -> Vec<u8> {

@@ -30,7 +30,7 @@ fn checks_are_answered_alike() {
             SCRATCH_WORDS,
             260,
         ]);
-        tally.checked(&bytes, checked_alike(&bytes, words));
+        tally.checked(&bytes, checked_alike(&bytes, random.any_words(words)));
     }
     tally.assert_refused((1..=17).chain([26]), 10);
     tally.assert_leaves(&[(Shown::Accepted, 200), (Shown::LeftLocally, 10)]);
@@ -38,20 +38,41 @@ fn checks_are_answered_alike() {
 
 #[test]
 fn refused_tables_fail_their_question() {
-    for Refused { number, how, table } in refused::all() {
-        let answer = checked_alike(&table, SCRATCH_WORDS);
+    let (all, timed) = (refused::all(), work::all());
+    for refused in &all {
+        let Refused { number, how, .. } = refused;
+        let answer = checked_alike(&refused.table, vec![7; refused.scratch_words()]);
         let refused_by = answer.err().map(|refusal| refusal.number);
-        assert_eq!(refused_by, Some(number), "{number}{how}");
+        assert_eq!(refused_by, Some(*number), "{number}{how}");
+        let is_accepted = |work: &Work| work.what == refused.accepted;
+        assert!(timed.iter().any(is_accepted), "{}", refused.accepted);
     }
+    let is_there = |number| all.iter().any(|refused| refused.number == number);
+    assert!((1..=17).chain([26]).all(is_there));
 }
 
-/// What both sides answer, with so many words of scratch.
-fn checked_alike(table: &[u8], words: usize) -> Result<(), Refusal> {
-    let (mut scratch, mut expected) = (vec![7; words], vec![7; words]);
+/// What both sides answer, with these words of scratch.
+fn checked_alike(table: &[u8], mut scratch: Vec<u32>) -> Result<(), Refusal> {
+    let mut expected = scratch.clone();
     let answer = native::check(table, &mut scratch);
     assert_eq!(answer, finchchaise::check(table, &mut expected));
     assert_eq!(scratch, expected);
     answer
+}
+
+/// The plain Rust keeps two facts in a bit of a node that leaves. Here such a node is never used, and
+/// another twice.
+#[test]
+fn a_node_that_leaves_and_is_not_used_is_refused() {
+    let mut table = Builder::new(1, &[]);
+    let (condition, found, other) = (table.own_number(), table.leave(), table.nothing());
+    let place = table.choose(condition, found, other);
+    let twice = table.nothing();
+    let body = table.sequence(twice, twice);
+    table.procedure(body, false);
+    let refusal = Refusal { number: 11, place };
+    let answer = checked_alike(&table.bytes(), vec![7; SCRATCH_WORDS]);
+    assert_eq!(answer, Err(refusal));
 }
 
 /// State and roll of one side.
@@ -170,7 +191,7 @@ fn serves_are_answered_alike() {
 #[test]
 fn loops_are_left_early_where_it_is_timed() {
     let table = inputs::left_early(256, 16).bytes();
-    assert_eq!(checked_alike(&table, SCRATCH_WORDS), Ok(()));
+    assert_eq!(checked_alike(&table, vec![7; SCRATCH_WORDS]), Ok(()));
     let mut lent = Lent {
         state: vec![0; PROCESS_WORDS],
         roll: vec![0; ROLL_WORDS],

@@ -1,14 +1,12 @@
 //! What is timed. Each piece of work is done by the library and by plain Rust, on buffers of their
 //! own that are equal.
 
-use crate::refused::{self, Refused};
+use crate::refused::{self, Refused, FULL, MIXED, STATEMENTS};
 use crate::{inputs, native};
 use finchchaise::{Answer, Event, Refusal, Served, TeamStatus, MOST_PROCESSES};
 use finchchaise::{DEPTH_AT, DOORS, PROCESS_WORDS, ROLL_WORDS, SCRATCH_WORDS, STACK, STACK_AT};
 use finchchaise_samples::stocktake;
 
-/// What the checks of refused tables are compared with.
-pub const FULL_CHECK: &str = "check, N 256, P 16";
 const STOCKTAKE_VARIABLES: usize = 4;
 const EXCHANGE: u8 = 25;
 const RUNNING: u32 = 0;
@@ -66,8 +64,8 @@ pub struct Work {
     pub what: String,
     task: Task,
     table: Vec<u8>,
-    /// The question that the table fails first.
-    pub refused_by: Option<u32>,
+    /// The question that the table fails first, and the check that it is compared with.
+    pub refused_by: Option<(u32, &'static str)>,
     processes: u32,
     /// The exchange at which processes wait, if any do.
     exchange: u32,
@@ -92,6 +90,7 @@ pub fn all() -> Vec<Work> {
     }
     all.push(Work::check_out_of_order());
     all.push(Work::check_left_early());
+    all.push(Work::check_statements());
     for (nodes, procedures) in [(16, 1), (256, 16)] {
         all.extend([1, 4, 16].map(|processes| Work::step(nodes, procedures, processes)));
         all.push(Work::exchange(nodes, procedures));
@@ -145,20 +144,30 @@ impl Work {
 
     fn check_out_of_order() -> Work {
         let table = inputs::out_of_order(&inputs::table(256, 16));
-        Work::check_of(format!("{FULL_CHECK}, out of order"), table.bytes())
+        Work::check_of(MIXED.to_string(), table.bytes())
     }
 
     fn check_left_early() -> Work {
         let table = inputs::left_early(256, 16);
-        Work::check_of(format!("{FULL_CHECK}, loops left early"), table.bytes())
+        Work::check_of(format!("{FULL}, loops left early"), table.bytes())
+    }
+
+    fn check_statements() -> Work {
+        Work::check_of(STATEMENTS.to_string(), inputs::statements(128).bytes())
     }
 
     fn refused_check(refused: Refused) -> Work {
-        let Refused { number, how, table } = refused;
-        let what = format!("check refused by {number}, N 256, P 16{how}");
+        let Refused {
+            number,
+            accepted,
+            how,
+            ..
+        } = refused;
+        let what = accepted.replacen("check", &format!("check refused by {number}"), 1) + how;
         Work {
-            refused_by: Some(number),
-            ..Work::check_of(what, table)
+            refused_by: Some((number, accepted)),
+            scratch: vec![0; refused.scratch_words()],
+            ..Work::check_of(what, refused.table)
         }
     }
 
@@ -343,6 +352,7 @@ impl Work {
     /// all turns must be made: another call takes another time.
     pub fn is_as_expected(&self) -> bool {
         let refused_by = self.checked.err().map(|refusal| refusal.number);
+        let is_checked = refused_by == self.refused_by.map(|(number, _)| number);
         let is_stepped = match self.stepped {
             Some(Ok(Answer { event, team })) => match self.task {
                 Task::Exchange => event == Event::Completed(self.exchange),
@@ -355,6 +365,6 @@ impl Work {
         let is_served = self
             .served
             .is_none_or(|served| served.made == TURNS && served.refusal.is_none());
-        refused_by == self.refused_by && is_stepped && is_served
+        is_checked && is_stepped && is_served
     }
 }

@@ -38,7 +38,8 @@ impl Lent {
     }
 }
 
-pub fn check(table: &[u8], scratch: &[u32]) -> Result<(), Refusal> {
+/// The scratch is then as both have left it.
+pub fn check(table: &[u8], scratch: &mut [u32]) -> Result<(), Refusal> {
     let (mut library, mut model) = (Lent::of(scratch), Lent::of(scratch));
     let answer = finchchaise::check(table, library.words());
     let expected = words::check(table, model.words());
@@ -50,6 +51,7 @@ pub fn check(table: &[u8], scratch: &[u32]) -> Result<(), Refusal> {
         scratch.len(),
         library.difference(&model)
     );
+    scratch.copy_from_slice(model.lent());
     answer
 }
 
@@ -126,48 +128,39 @@ impl Team<'_> {
     }
 
     pub fn start(&mut self, processes: u32, start_words: &[u32]) -> Result<(), Refusal> {
-        let Team {
-            table,
-            library,
-            model,
-        } = self;
-        let (state, roll) = (library.state.words(), library.roll.words());
-        let answer = finchchaise::start(table, processes, start_words, state, roll);
-        let (state, roll) = (model.state.words(), model.roll.words());
-        let expected = words::start(table, processes, start_words, state, roll);
-        self.same(answer, expected, || {
-            format!("start of {processes} with {} words", start_words.len())
-        })
+        self.both(
+            |table, state, roll| finchchaise::start(table, processes, start_words, state, roll),
+            |table, state, roll| words::start(table, processes, start_words, state, roll),
+            || format!("start of {processes} with {} words", start_words.len()),
+        )
     }
 
     pub fn step(&mut self, process: u32) -> Result<Answer, Refusal> {
-        let Team {
-            table,
-            library,
-            model,
-        } = self;
-        let (state, roll) = (library.state.words(), library.roll.words());
-        let answer = finchchaise::step(table, state, roll, process);
-        let (state, roll) = (model.state.words(), model.roll.words());
-        let expected = words::step(table, state, roll, process);
-        self.same(answer, expected, || format!("step of {process}"))
+        self.both(
+            |table, state, roll| finchchaise::step(table, state, roll, process),
+            |table, state, roll| words::step(table, state, roll, process),
+            || format!("step of {process}"),
+        )
     }
 
     pub fn serve(&mut self, last: u32, turns: u32) -> Served {
-        let Team {
-            table,
-            library,
-            model,
-        } = self;
-        let (state, roll) = (library.state.words(), library.roll.words());
-        let answer = finchchaise::serve(table, state, roll, last, turns);
-        let (state, roll) = (model.state.words(), model.roll.words());
-        let expected = words::serve(table, state, roll, last, turns);
-        self.same(answer, expected, || format!("{turns} turns after {last}"))
+        self.both(
+            |table, state, roll| finchchaise::serve(table, state, roll, last, turns),
+            |table, state, roll| words::serve(table, state, roll, last, turns),
+            || format!("{turns} turns after {last}"),
+        )
     }
 
-    fn same<T: Debug + PartialEq>(&self, answer: T, expected: T, call: impl Fn() -> String) -> T {
-        let (library, model) = (&self.library, &self.model);
+    /// The answer to a call, which is named if the two differ.
+    fn both<T: Debug + PartialEq>(
+        &mut self,
+        of_library: impl Fn(&[u8], &mut [u32], &mut [u32]) -> T,
+        of_model: impl Fn(&[u8], &mut [u32], &mut [u32]) -> T,
+        call: impl Fn() -> String,
+    ) -> T {
+        let (library, model) = (&mut self.library, &mut self.model);
+        let answer = of_library(self.table, library.state.words(), library.roll.words());
+        let expected = of_model(self.table, model.state.words(), model.roll.words());
         assert!(
             answer == expected && library == model,
             "{} of {}: library {answer:?}, model {expected:?}, state differs at {:?}, roll at \

@@ -46,13 +46,14 @@ fn damage_node(table: &Builder, words: &mut [u32], random: &mut Random) {
     let (node, other) = (random.below(nodes.len()), random.below(nodes.len()));
     let word = nodes[node];
     let called = random.from(0, table.procedures.len()) as u32;
-    nodes[node] = match random.below(14) {
+    nodes[node] = match random.below(16) {
         0 => (random.below(32) as u32) << 27 | word & 0x7FF_FFFF,
         1 => random.pick(&KINDS) << 27 | word & 0x7FF_FFFF,
         2 => random.number() as u32,
         3 => return nodes.swap(node, other),
         4..=6 => return replace_some(nodes, &[CALL], CALL << 27 | called << 18, random),
         7 | 8 => return replace_some(nodes, &[NOTHING, BARRIER], LEAVE << 27, random),
+        9 | 10 => with_another_part(word, &nodes[..node], random),
         _ => damaged_field(word, nodes.len(), random),
     };
 }
@@ -68,6 +69,27 @@ fn replace_some(nodes: &mut [u32], kinds: &[u32], replacement: u32, random: &mut
     }
 }
 
+/// In place of a part another node of its sort, which is then used twice, and the part never.
+fn with_another_part(word: u32, before: &[u32], random: &mut Random) -> u32 {
+    let kind = word >> 27;
+    let places: Vec<usize> = parts(kind).collect();
+    if places.is_empty() {
+        return word;
+    }
+    let place = random.pick(&places);
+    let statement = fields(kind)[place - 1] == Field::Statement;
+    let fits = |part: &usize| is_statement(before[*part] >> 27) == statement;
+    let alike: Vec<usize> = (0..before.len()).filter(fits).collect();
+    match alike.is_empty() {
+        true => word,
+        false => with_field(word, 27 - 9 * place, random.pick(&alike) as u32),
+    }
+}
+
+fn with_field(word: u32, shift: usize, field: u32) -> u32 {
+    word & !(0x1FF << shift) | field << shift
+}
+
 /// Another number in A, B or C, mostly one that some node has.
 fn damaged_field(word: u32, nodes: usize, random: &mut Random) -> u32 {
     let shift = random.pick(&[0, 9, 18]);
@@ -75,7 +97,7 @@ fn damaged_field(word: u32, nodes: usize, random: &mut Random) -> u32 {
         0 => random.edge() & 0x1FF,
         _ => random.below(nodes + 1) as u32 & 0x1FF,
     };
-    word & !(0x1FF << shift) | field << shift
+    with_field(word, shift, field)
 }
 
 fn change_length(table: &mut Vec<u8>, random: &mut Random) {

@@ -58,4 +58,13 @@ impl Random {
     pub fn words(&mut self, count: usize) -> Vec<u32> {
         (0..count).map(|_| self.word()).collect()
     }
+
+    /// Words that are all alike, or of which each bit is set or not by chance.
+    pub fn any_words(&mut self, count: usize) -> Vec<u32> {
+        match self.below(8) {
+            0 => vec![u32::MAX; count],
+            1 => vec![self.word(); count],
+            _ => (0..count).map(|_| self.number() as u32).collect(),
+        }
+    }
 }

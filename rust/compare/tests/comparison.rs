@@ -15,11 +15,11 @@ const LATCH_VIEWS: usize = 20_000;
 /// Scratch of the right length mostly, never cleared.
 fn scratch(random: &mut Random) -> Vec<u32> {
     let length = match random.below(40) {
-        0 => random.pick(&[0, 1, 24, 255]),
-        1 => random.pick(&[257, 300]),
-        _ => 256,
+        0 => random.below(SCRATCH_WORDS),
+        1 => random.pick(&[SCRATCH_WORDS + 1, 256]),
+        _ => SCRATCH_WORDS,
     };
-    vec![random.word(); length]
+    random.any_words(length)
 }
 
 /// Checks tables out of one source.
@@ -32,7 +32,7 @@ fn checks(what: &str, seed: u64, source: impl Fn(&mut Random) -> Vec<u8>) -> Tal
         let offset = bytes.len();
         bytes.extend(source(&mut random));
         let table = &bytes[offset..];
-        tally.checked(table, check(table, &scratch(&mut random)));
+        tally.checked(table, check(table, &mut scratch(&mut random)));
     }
     tally.show(what);
     tally
@@ -138,7 +138,7 @@ impl Runs {
             return;
         }
         let last = self.steps(&mut team, count, random);
-        let promised = equal && check(&bytes, &[1; SCRATCH_WORDS]).is_ok();
+        let promised = equal && check(&bytes, &mut [1; SCRATCH_WORDS]).is_ok();
         assert!(!promised || last != TeamStatus::Deadlocked);
     }
 }

@@ -3,7 +3,7 @@
 use crate::refusal::{ask_each, Refusal};
 use crate::table::{Kind, Table};
 
-pub const SCRATCH_WORDS: usize = 256;
+pub const SCRATCH_WORDS: usize = 24;
 
 /// The checker: questions 1 to 12, 26 and 13 to 17. The judgements need no scratch here, so its
 /// first words are only set to 0 as promised.

@@ -115,14 +115,14 @@ fn scratch_is_zeroed_unless_too_short() {
         number: 1,
         place: 0,
     };
-    let mut short = [MARK; 255];
+    let mut short = [MARK; 23];
     assert_eq!(check(&t2(), &mut short), Err(one));
-    assert_eq!(short, [MARK; 255]);
+    assert_eq!(short, [MARK; 23]);
     for table in [t2(), bytes(&T1), vec![]] {
-        let mut scratch = [MARK; 258];
+        let mut scratch = [MARK; 26];
         let _ = check(&table, &mut scratch);
-        assert_eq!(scratch[..256], [0; 256]);
-        assert_eq!(scratch[256..], [MARK; 2]);
+        assert_eq!(scratch[..24], [0; 24]);
+        assert_eq!(scratch[24..], [MARK; 2]);
     }
 }
 

@@ -1,10 +1,10 @@
 -- `ask_calls` meets its contract: 12 from the first call that fails it, 26 from the first leave, then the least of 13 to 17.
-use mathlib.Core.Path.{_≡_, _∙_}
-use Rattle.leaves.proofs.LooseLaws.{held-bodies}
-use Rattle.rules.specs.WellFormed.{wellBuilt}
-use Rattle.rules.specs.declared.Verdict.the-variants.{Accepted}
-use Rattle.rules.proofs.Formed.{built}
-use Rattle.sweep.proofs.FormedLaws.{refused12, accepted12, refused26, unjudged, judged-next, judged-verdict, well-built}
+use mathlib.Core.Path.{_∙_}
+use native.Mathlib.Omega.{arith}
+use Rattle.rules.specs.Table.{nodes}
+use Rattle.visit.specs.Facts.{guardCode}
+use Rattle.visit.proofs.LeastLaws.{least-high}
+use Rattle.sweep.proofs.FormedLaws.{refused12, accepted12, refused26, unjudged, judged-next, judged-verdict, well-built, rules-whole}
 use borrow.Author.Needs.{needs}
 use Rattle.sweep.proofs.ask_calls.Statement.{statement}
 use Rattle.sweep.proofs.ask_calls.Tie as tie
@@ -24,19 +24,35 @@ same-length c = search needs
 returns : tie.Need-returns
 returns c =
     let test = c .before in
-    let walk = test .before .before .before .before in
-    let start = walk .before .before .before .before in
+    let walk = c .before .before .before .before .before in
+    let start = c .before .before .before .before .before .before .before .before .before in
     c .refused .ensures ∙ refused12 (start .pre .0 .0 .sized) (walk .first-call .ensures .first) _ (test .if1 .taken)
+
+pass-leaves-requires : tie.Need-pass-leaves-requires
+pass-leaves-requires c κs =
+    let walk = c .before .before .before .before .before in
+    let start = c .before .before .before .before .before .before .before .before .before in
+    let filled = start .pre .0 .0 in
+    let called = walk .first-call .ensures in
+    let kept = start .pre .1 in
+    let passed = well-built filled (accepted12 (filled .sized) (called .first) (start .args .judged) (c .before .if1 .left)) in (
+      (
+        record { well-built = passed; headed = filled .sized .read },
+        omega (arith, kept .least, least-high (guardCode (start .args .table .now)) (nodes (start .args .table .now))),
+        called .size,
+      ),
+      rw (called .leaves) (kept .noted),
+    )
 
 first-loose-requires : tie.Need-first-loose-requires
 first-loose-requires c κs =
-    let walk = c .before .before .before .before .before in
-    let start = walk .before .before .before .before in
+    let walk = c .before .before .before .before .before .before .before .before .before in
+    let start = c .before .before .before .before .before .before .before .before .before .before .before .before .before in
     let filled = start .pre .0 .0 in
     let called = walk .first-call .ensures in
-    let passed = well-built filled (accepted12 (filled .sized) (called .first) (start .args .judged) (c .before .if1 .left)) in
-    let held = held-bodies _ (built _ passed) (start .pre .1 passed .leaves) in
-    ((record { well-built = passed; headed = filled .sized .read }, called .size), rw (called .leaves) held)
+    let passed = well-built filled (accepted12 (filled .sized) (called .first) (start .args .judged) (c .before .before .before .before .before .if1 .left)) in
+    let leaves = c .before .before .before .pass-leaves .ensures in
+    ((record { well-built = passed; headed = filled .sized .read }, leaves .size), leaves .held)
 
 cast-refused-2 : tie.Need-cast-refused-2
 cast-refused-2 c = search needs
@@ -50,28 +66,29 @@ same-length-2 c = search needs
 returns-2 : tie.Need-returns-2
 returns-2 c =
     let loose = c .before .before .before in
-    let past = loose .before .before in
-    let walk = past .before .before .before .before in
-    let start = walk .before .before .before .before in
+    let past = c .before .before .before .before .before .before .before .before .before in
+    let walk = c .before .before .before .before .before .before .before .before .before .before .before .before .before in
+    let start = c .before .before .before .before .before .before .before .before .before .before .before .before .before .before .before .before .before in
     c .refused2 .ensures
     ∙ refused26 (start .pre .0 .0 .sized) (walk .first-call .ensures .first) _ (past .if1 .left) (loose .first-loose .ensures)
     (c .before .if2 .taken)
 
 unflagged-requires : tie.Need-unflagged-requires
 unflagged-requires c κs =
-    let walk = c .before .before .before .before .before .before .before .before .before .before in
-    let start = walk .before .before .before .before in
+    let walk = c .before .before .before .before .before .before .before .before .before .before .before .before .before .before in
+    let start = c .before .before .before .before .before .before .before .before .before .before .before .before .before .before .before .before .before .before in
     let filled = start .pre .0 .0 in
     let called = walk .first-call .ensures in
-    let passed =
-    well-built filled (accepted12 (filled .sized) (called .first) (start .args .judged) (c .before .before .before .before .before .before .if1 .left)) in
-    let facts = start .pre .1 passed .judge (c .before .if3 .taken) in
-    (filled, called .size, (rw (called .facts) (facts .0), facts .1))
+    let leaves = c .before .before .before .before .before .before .before .before .pass-leaves .ensures in
+    let kept = start .pre .1 in (
+      filled,
+      leaves .size,
+      rw (leaves .facts ∙ called .facts) (kept .facts),
+      leaves .least (rw (called .facts) (kept .facts)) ∙ rw (kept .least) (rules-whole (filled .sized)),
+    )
 
 verdict-requires : tie.Need-verdict-requires
-verdict-requires c κs =
-    let sized = c .before .before .before .before .before .before .before .before .before .before .before .before .before .before .before .pre .0 .0 .sized in
-    judged-verdict sized (c .unflagged .ensures) .1
+verdict-requires c κs = judged-verdict (c .before .before .before .before .before .before .before .before .before .before .before .before .before .before .before .before .before .before .before .pre .0 .0 .sized) (c .unflagged .ensures) .1
 
 same-length-3 : tie.Need-same-length-3
 same-length-3 c = search needs
@@ -79,14 +96,14 @@ same-length-3 c = search needs
 returns-3 : tie.Need-returns-3
 returns-3 c =
     let loose = c .before .before .before .before .before .before in
-    let past = loose .before .before in
-    let walk = past .before .before .before .before in
-    let start = walk .before .before .before .before in
+    let past = c .before .before .before .before .before .before .before .before .before .before .before .before in
+    let walk = c .before .before .before .before .before .before .before .before .before .before .before .before .before .before .before .before in
+    let start = c .before .before .before .before .before .before .before .before .before .before .before .before .before .before .before .before .before .before .before .before in
     let sized = start .pre .0 .0 .sized in
     let answer = c .verdict .ensures ∙ judged-verdict sized (c .before .unflagged .ensures) .0 in
     answer
-    ∙ judged-next sized (walk .first-call .ensures .first) _ (past .if1 .left) (loose .first-loose .ensures) (c .before .before .before .before .if2 .left)
-    (c .before .before .before .if3 .taken)
+    ∙ judged-next sized (walk .first-call .ensures .first) _ (past .if1 .left) (loose .first-loose .ensures)
+    (c .before .before .before .before .if2 .left) (c .before .before .before .if3 .taken)
 
 same-length-4 : tie.Need-same-length-4
 same-length-4 c = search needs
@@ -94,9 +111,9 @@ same-length-4 c = search needs
 returns-4 : tie.Need-returns-4
 returns-4 c =
     let loose = c .before .before .before in
-    let past = loose .before .before in
-    let walk = past .before .before .before .before in
-    let start = walk .before .before .before .before in
+    let past = c .before .before .before .before .before .before .before .before .before in
+    let walk = c .before .before .before .before .before .before .before .before .before .before .before .before .before in
+    let start = c .before .before .before .before .before .before .before .before .before .before .before .before .before .before .before .before .before in
     unjudged (start .pre .0 .0 .sized) (walk .first-call .ensures .first) _ (past .if1 .left) (loose .first-loose .ensures)
     (c .before .if2 .left) (c .if3 .left)
 
@@ -109,6 +126,7 @@ ask-calls-spec =
     refused-requires
     same-length
     returns
+    pass-leaves-requires
     first-loose-requires
     cast-refused-2
     refused-requires-2

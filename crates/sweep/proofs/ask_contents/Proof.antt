@@ -53,7 +53,7 @@ ask-calls-requires c κs =
         length-put-used planes size words many,
         found .called,
       ),
-      λ passed. kept-put planes size words many (found .kept passed first),
+      kept-put planes size words many (found .kept first),
     )
 
 same-length-2 : tie.Need-same-length-2

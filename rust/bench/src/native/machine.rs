@@ -1,6 +1,6 @@
 //! Start and step, questions 18 to 24, on the lent words in place.
 
-use super::reader::{read, Facts, STATEMENT};
+use super::reader::read;
 use super::refusal::refused;
 use super::table::{Node, Table};
 use finchchaise::{Answer, Event, Refusal, TeamStatus};
@@ -29,7 +29,7 @@ pub fn start(
     state: &mut [u32],
     roll: &mut [u32],
 ) -> Result<(), Refusal> {
-    let (table, _) = read(table)?;
+    let table = read(table)?;
     let count = processes as usize;
     if !(1..=MOST_PROCESSES).contains(&count) {
         return refused(18, 0);
@@ -70,7 +70,6 @@ pub fn step(
 
 pub struct Team<'lent> {
     table: Table<'lent>,
-    facts: Facts,
     processes: &'lent mut [Words],
     records: &'lent mut [Record],
 }
@@ -84,7 +83,7 @@ impl<'lent> Team<'lent> {
         roll: &'lent mut [u32],
         process: u32,
     ) -> Result<Team<'lent>, Refusal> {
-        let (table, facts) = read(table)?;
+        let table = read(table)?;
         let (records, rest) = roll.as_chunks_mut();
         let count = records.len();
         if !rest.is_empty() || !(1..=MOST_PROCESSES).contains(&count) {
@@ -95,7 +94,6 @@ impl<'lent> Team<'lent> {
         }
         let team = Team {
             table,
-            facts,
             processes: state.as_chunks_mut().0,
             records,
         };
@@ -122,18 +120,13 @@ impl Team<'_> {
         let Some(stack) = words[STACK..].get(..words[DEPTH] as usize) else {
             return false;
         };
-        let facts = &self.facts;
-        let is_statement = |&entry: &u32| {
-            facts
-                .get(entry as usize)
-                .is_some_and(|f| f & STATEMENT != 0)
-        };
+        let is_statement = |&entry: &u32| self.table.is_statement(entry as usize);
         stack.iter().all(is_statement)
             && match (record, stack.last()) {
                 ([ENDED, 0, 0, 0], top) => top.is_none(),
                 ([RUNNING, 0, 0, 0], Some(&top)) => self.can_leave(top as usize, stack),
                 (&[WAITING, node, value, source], Some(&top)) if top == node => {
-                    match self.table.node(node as usize).kind {
+                    match self.table.node(node as usize).kind() {
                         23 => value | source == 0,
                         24 => true,
                         25 => source == 0,
@@ -163,7 +156,7 @@ impl Team<'_> {
 
     /// A leave on top needs its while below.
     fn can_leave(&self, top: usize, stack: &[u32]) -> bool {
-        if self.table.node(top).kind != 26 {
+        if self.table.node(top).kind() != 26 {
             return true;
         }
         let left = self.table.while_around(top);
@@ -195,7 +188,7 @@ impl Team<'_> {
         }
         let top = top(&self.processes[number]);
         let node = self.table.node(top);
-        match node.kind {
+        match node.kind() {
             23..=25 => return Ok(self.arrive(number, top, node)),
             26 => self.leave(number, top),
             _ if !self.perform(number, node) => return refused(24, number),
@@ -222,7 +215,7 @@ impl Team<'_> {
 
     /// A statement that is no collective or leave; false if there is no place on the stack.
     fn perform(&mut self, number: usize, node: Node) -> bool {
-        let Node { kind, a, b, c } = node;
+        let (kind, a, b, c) = (node.kind(), node.a(), node.b(), node.c());
         let value = |part| self.value(number, part);
         let place = match kind {
             17 => Some((a, value(b))),
@@ -253,9 +246,9 @@ impl Team<'_> {
     }
 
     fn arrive(&mut self, number: usize, top: usize, node: Node) -> Event {
-        let (value, source) = match node.kind {
-            24 => (self.value(number, node.b), self.value(number, node.c)),
-            25 => (self.value(number, node.a), 0),
+        let (value, source) = match node.kind() {
+            24 => (self.value(number, node.b()), self.value(number, node.c())),
+            25 => (self.value(number, node.a()), 0),
             _ => (0, 0),
         };
         self.records[number] = [WAITING, top as u32, value, source];
@@ -268,10 +261,10 @@ impl Team<'_> {
 
     fn complete(&mut self, node: Node) {
         for (words, record) in self.processes.iter_mut().zip(&*self.records) {
-            match node.kind {
+            match node.kind() {
                 24 => {
                     let sender = self.records.get(record[3] as usize);
-                    words[node.a] = sender.map_or(0, |sender| sender[2]);
+                    words[node.a()] = sender.map_or(0, |sender| sender[2]);
                 }
                 25 => {
                     let gathered = &mut words[GATHERED..];
@@ -308,26 +301,26 @@ impl Team<'_> {
 
     fn value(&self, number: usize, node: usize) -> u32 {
         let words = &self.processes[number];
-        let Node { kind, a, b, c } = self.table.node(node);
-        match kind {
-            0 => return (b * 512 + c) as u32,
-            1 => return words[a],
+        let node = self.table.node(node);
+        match node.kind() {
+            0 => return (node.b() * 512 + node.c()) as u32,
+            1 => return words[node.a()],
             2 => return number as u32,
             3 => return self.records.len() as u32,
             _ => (),
         }
-        let left = self.value(number, a);
+        let left = self.value(number, node.a());
         let looked_up = |begin, count| match (left as usize) < count {
             true => words[begin + left as usize],
             false => 0,
         };
-        match kind {
+        match node.kind() {
             4 => return looked_up(DOORS_BEGIN, DOORS),
             5 => return looked_up(GATHERED, self.records.len()),
             _ => (),
         }
-        let right = self.value(number, b);
-        match kind {
+        let right = self.value(number, node.b());
+        match node.kind() {
             6 => left.wrapping_add(right),
             7 => left.wrapping_sub(right),
             8 => left.wrapping_mul(right),

@@ -1,269 +1,310 @@
 //! Questions 7 to 17 and 26, in one pass over the nodes.
 
-use super::refusal::{call_going_up, misused, refused, stray_leave};
-use super::table::{Node, Table};
-use finchchaise::Refusal;
-
-/// One more than a field can hold, so that any field may be looked up.
-const FIELDS: usize = 512;
-const SCRATCH_WORDS: usize = 256;
-
-/// Facts of a node that has been read; 0 for one that has not.
-const EXPRESSION: u8 = 1;
-pub const STATEMENT: u8 = 2;
-const SINGLE: u8 = 4;
-const EFFECT: u8 = 8;
-/// A leave is in it that ends a while around it.
-const LEAVES: u8 = 16;
-/// One of them stands under an if whose condition is not single.
-const LEAVES_LOCALLY: u8 = 32;
-
-pub type Facts = [u8; FIELDS];
-
-/// The number that failed first, and its lowest place. Only 26 is not asked in its order: after 12.
-type Fault = (u32, usize);
-const NO_FAULT: Fault = (u32::MAX, 0);
+use super::planes::{Plane, Planes, Scratch};
+use super::refusal::{call_going_up, misused, question_failed, refused, stray_leave, Fault};
+use super::table::{has_effect, is_statement, Node, Table, A, B, C};
+use finchchaise::{Refusal, SCRATCH_WORDS};
 
 pub fn check(table: &[u8], scratch: &mut [u32]) -> Result<(), Refusal> {
-    match scratch.get_mut(..SCRATCH_WORDS) {
-        None => return refused(1, 0),
-        Some(words) => words.fill(0),
-    }
-    match Reader::read(Table::of(table)?).fault {
-        NO_FAULT => Ok(()),
-        (number, place) => refused(number, place),
+    let Some(words) = scratch.first_chunk_mut() else {
+        return refused(1, 0);
+    };
+    *words = [0; SCRATCH_WORDS];
+    let answer = Table::of(table).and_then(|table| ask::<true>(&table, words));
+    *words = [0; SCRATCH_WORDS];
+    answer
+}
+
+/// A table that has passed questions 2 to 12 and 26.
+pub fn read(table: &[u8]) -> Result<Table<'_>, Refusal> {
+    let table = Table::of(table)?;
+    ask::<false>(&table, &mut [0; SCRATCH_WORDS])?;
+    Ok(table)
+}
+
+/// Questions 7 to 12 and 26, and 13 to 17 if the table is judged. The words are 0.
+#[inline(always)]
+fn ask<const JUDGED: bool>(table: &Table, words: &mut Scratch) -> Result<(), Refusal> {
+    let mut reader = Reader::<JUDGED>::of(table, words);
+    match reader.read() {
+        Some(()) => reader.answer(),
+        None => reader.refuse(),
     }
 }
 
-/// A table that has passed questions 2 to 12 and 26, and its nodes' facts.
-pub fn read(table: &[u8]) -> Result<(Table<'_>, Facts), Refusal> {
-    let reader = Reader::read(Table::of(table)?);
-    match reader.fault {
-        (number @ (..=12 | 26), place) => refused(number, place),
-        _ => Ok((reader.table, reader.facts)),
-    }
-}
-
-struct Reader<'bytes> {
-    table: Table<'bytes>,
-    facts: Facts,
-    /// For each statement a number above every procedure that is called in it.
-    reach: [u8; FIELDS],
-    used: [bool; FIELDS],
+struct Reader<'table, const JUDGED: bool> {
+    table: &'table Table<'table>,
+    planes: Planes<'table>,
+    /// The nodes before the one that is read now.
+    before: &'table [[u8; 4]],
+    /// The first node that is not read yet.
+    next: usize,
+    /// How often nodes were named as parts and bodies.
     uses: usize,
-    used_again: bool,
-    fault: Fault,
+    /// Whether each procedure's nodes lie together, in the order of the procedures.
+    in_blocks: bool,
+    /// The first call that does not go down, if they do.
+    goes_up: Fault,
+    /// Until there is a leave, nobody looks for one.
+    has_leaves: bool,
+    /// Whether some leave has no while around it.
+    strays: bool,
+    /// The least of 13 to 17.
+    rule: Fault,
 }
 
-/// Whether a node's unnamed fields are 0, whether the named ones fit, and its facts.
-type Read = (bool, bool, u8);
-
-impl<'bytes> Reader<'bytes> {
-    fn read(table: Table<'bytes>) -> Reader<'bytes> {
-        let mut reader = Reader {
+impl<'table, const JUDGED: bool> Reader<'table, JUDGED> {
+    fn of(table: &'table Table, words: &'table mut Scratch) -> Self {
+        Reader {
             table,
-            facts: [0; FIELDS],
-            reach: [0; FIELDS],
-            used: [false; FIELDS],
+            planes: Planes::of(words),
+            before: &[],
+            next: 0,
             uses: 0,
-            used_again: false,
-            fault: NO_FAULT,
-        };
-        for (number, &word) in reader.table.nodes.iter().enumerate() {
-            reader.read_node(number, Node::of(word));
-        }
-        reader.read_bodies();
-        reader
-    }
-
-    #[cold]
-    fn fail(&mut self, number: u32, place: usize) {
-        self.fault = self.fault.min((number, place));
-    }
-
-    /// The facts of a part, which has one use more.
-    #[inline(always)]
-    fn part(&mut self, node: usize) -> u8 {
-        self.uses += 1;
-        self.used_again |= self.used[node];
-        self.used[node] = true;
-        self.facts[node]
-    }
-
-    /// Questions 7 to 9 and 13 to 16 of one node.
-    #[inline(always)]
-    fn read_node(&mut self, number: usize, node: Node) {
-        let (bare, fits, facts) = match node.kind {
-            0 => (node.a == 0, true, EXPRESSION | SINGLE),
-            1 => self.variable(node),
-            2 => without_fields(node, EXPRESSION),
-            3 => without_fields(node, EXPRESSION | SINGLE),
-            4 => self.door(node),
-            5 => self.gathered(node),
-            6..=12 => self.combined(node),
-            16 => without_fields(node, STATEMENT),
-            17 => self.assign(number, node),
-            18 => self.sequence(number, node),
-            19 => self.choose(number, node),
-            20 => self.repeat(number, node),
-            21 => self.call(number, node),
-            22 => self.latch(node),
-            23 => without_fields(node, STATEMENT | EFFECT),
-            24 => self.broadcast(number, node),
-            25 => self.exchange(node),
-            26 => without_fields(node, STATEMENT | LEAVES),
-            _ => return self.fail(7, number),
-        };
-        self.facts[number] = facts;
-        if !bare {
-            self.fail(8, number);
-        } else if !fits {
-            self.fail(9, number);
+            in_blocks: true,
+            goes_up: Fault::NONE,
+            has_leaves: false,
+            strays: false,
+            rule: Fault::NONE,
         }
     }
 
-    /// Where there is an effect, the expression has to be single.
+    /// Each procedure's nodes up to its body, then the body. If that makes as many uses as nodes,
+    /// all nodes so far belong to procedures up to this one: they lie in blocks. `None` if one of 7
+    /// to 10 fails, or if nodes are left above all bodies, of which nothing can use the last.
     #[inline(always)]
-    fn ask_single(&mut self, number: u32, node: usize, expression: u8, effect: u8) {
-        if expression & SINGLE == 0 && effect & EFFECT != 0 {
-            self.fail(number, node);
-        }
-    }
-
-    /// Questions 10 to 12, 26 and 17.
-    fn read_bodies(&mut self) {
-        let mut goes_up = false;
-        let mut strays = false;
+    fn read(&mut self) -> Option<()> {
         for (procedure, word) in self.table.procedures.iter().enumerate() {
             let body = word[0] as usize;
-            let facts = self.part(body);
-            goes_up |= self.reach[body] as usize > procedure;
-            strays |= facts & LEAVES != 0;
-            if facts & STATEMENT == 0 {
-                self.fail(10, procedure);
+            self.read_nodes(procedure, &self.table.nodes[..=body])?;
+            if !self.table.is_statement(body) {
+                return None;
             }
-            if facts & EFFECT != 0 && word[1] >> 7 == 0 {
-                self.fail(17, procedure);
+            if self.has_leaves && self.planes.take(Plane::Leaves, body) {
+                self.strays = true;
+            }
+            let effect = self.part(body);
+            self.in_blocks &= self.uses == self.next;
+            if effect && !has_effect(word) {
+                self.rule = self.rule.or(17, procedure);
             }
         }
-        // As many uses as nodes, and no node twice: each is used once.
-        if (self.uses != self.table.nodes.len() || self.used_again) && self.fault.0 > 11 {
-            self.fail(11, misused(&self.table));
+        (self.next == self.table.nodes.len()).then_some(())
+    }
+
+    #[inline(always)]
+    fn read_nodes(&mut self, procedure: usize, nodes: &'table [[u8; 4]]) -> Option<()> {
+        for number in self.next..nodes.len() {
+            self.next = number;
+            self.before = &nodes[..number];
+            if self.read_node(procedure, Node::of(nodes[number]))? && JUDGED {
+                self.planes.put(Plane::Fact, number);
+            }
         }
-        if goes_up && self.fault.0 > 12 {
-            self.fail(12, call_going_up(&self.table));
+        self.next = self.next.max(nodes.len());
+        Some(())
+    }
+
+    /// Questions 11, 12, 26 and 13 to 17 of a table that passes 7 to 10.
+    #[inline(always)]
+    fn answer(mut self) -> Result<(), Refusal> {
+        // As many uses as nodes, and every node used: none is used twice. A node that still leaves
+        // is not used, whatever its bit.
+        let unused = self.planes.lowest(|[used, _, leaves]| !used | leaves);
+        let nodes = self.table.nodes.len();
+        if self.uses != nodes || unused < nodes {
+            return refused(11, misused(self.table, &mut self.planes));
         }
-        if strays && self.fault.0 > 12 {
-            self.fault = (26, stray_leave(&self.table));
+        match self.in_blocks {
+            true => self.goes_up.answer()?,
+            false => call_going_up(self.table, &mut self.planes).answer()?,
+        }
+        if self.strays {
+            return refused(26, stray_leave(self.table, &mut self.planes));
+        }
+        self.rule.answer()
+    }
+
+    /// The least of 7 to 11 of a table that was not read to its end.
+    #[cold]
+    #[inline(never)]
+    fn refuse(mut self) -> Result<(), Refusal> {
+        let Table {
+            procedures, nodes, ..
+        } = self.table;
+        let mut fault = Fault::NONE;
+        for number in self.next..nodes.len() {
+            self.before = &nodes[..number];
+            let node = Node::of(nodes[number]);
+            if self.read_node(0, node).is_none() {
+                fault = fault.or(question_failed(node), number);
+            }
+        }
+        fault.answer()?;
+        let is_unfit = |word: &[u8; 4]| !self.table.is_statement(word[0] as usize);
+        match procedures.iter().position(is_unfit) {
+            Some(procedure) => refused(10, procedure),
+            None => refused(11, misused(self.table, &mut self.planes)),
         }
     }
 }
 
-#[inline(always)]
-fn without_fields(node: Node, facts: u8) -> Read {
-    (node.a | node.b | node.c == 0, true, facts)
-}
-
-fn are(facts: u8, wanted: u8) -> bool {
-    facts & wanted != 0
-}
-
-/// Expressions.
-impl Reader<'_> {
+/// Questions 7 to 9 and 13 to 16 of a node: its fact, or `None` if 7, 8 or 9 fails.
+impl<const JUDGED: bool> Reader<'_, JUDGED> {
     #[inline(always)]
-    fn variable(&mut self, Node { a, b, c, .. }: Node) -> Read {
-        let single = if self.table.is_flagged(a) { SINGLE } else { 0 };
-        (b | c == 0, a < self.table.variables, EXPRESSION | single)
+    fn read_node(&mut self, procedure: usize, node: Node) -> Option<bool> {
+        match node.kind() {
+            0 => node.unnamed(A).map(|()| false),
+            1 => self.variable(node),
+            2 | 23 => node.unnamed(A | B | C).map(|()| true),
+            3 | 16 => node.unnamed(A | B | C).map(|()| false),
+            4 | 25 => self.unary(node).map(|_| true),
+            5 => self.unary(node),
+            6..=12 => self.binary(node),
+            17 => self.assign(node),
+            18 => self.sequence(node),
+            19 => self.choose(node),
+            20 => self.repeat(node),
+            21 => self.call(procedure, node),
+            22 => self.binary(node).map(|_| false),
+            24 => self.broadcast(node),
+            26 => self.leave(node),
+            _ => None,
+        }
     }
 
     #[inline(always)]
-    fn door(&mut self, Node { a, b, c, .. }: Node) -> Read {
-        (b | c == 0, are(self.part(a), EXPRESSION), EXPRESSION)
+    fn variable(&mut self, node: Node) -> Option<bool> {
+        node.unnamed(B | C)?;
+        self.table.variable(node.a()).map(|is_single| !is_single)
     }
 
     #[inline(always)]
-    fn gathered(&mut self, Node { a, b, c, .. }: Node) -> Read {
-        let index = self.part(a);
-        (b | c == 0, are(index, EXPRESSION), index)
+    fn unary(&mut self, node: Node) -> Option<bool> {
+        node.unnamed(B | C)?;
+        self.expression(node.a())
     }
 
     #[inline(always)]
-    fn combined(&mut self, Node { a, b, c, .. }: Node) -> Read {
-        let both = self.part(a) & self.part(b);
-        (c == 0, are(both, EXPRESSION), both)
-    }
-}
-
-/// Statements.
-impl Reader<'_> {
-    #[inline(always)]
-    fn assign(&mut self, number: usize, Node { a, b, c, .. }: Node) -> Read {
-        let value = self.part(b);
-        let effect = if self.table.is_flagged(a) { EFFECT } else { 0 };
-        self.ask_single(13, number, value, effect);
-        let fits = a < self.table.variables && are(value, EXPRESSION);
-        (c == 0, fits, STATEMENT | effect)
+    fn binary(&mut self, node: Node) -> Option<bool> {
+        node.unnamed(C)?;
+        Some(self.expression(node.a())? | self.expression(node.b())?)
     }
 
     #[inline(always)]
-    fn sequence(&mut self, number: usize, Node { a, b, c, .. }: Node) -> Read {
-        let (first, second) = (self.part(a), self.part(b));
-        self.reach[number] = self.reach[a].max(self.reach[b]);
-        (c == 0, are(first & second, STATEMENT), first | second)
+    fn assign(&mut self, node: Node) -> Option<bool> {
+        node.unnamed(C)?;
+        let effect = self.table.variable(node.a())?;
+        let local = self.expression(node.b())?;
+        self.ruled(13, effect, local)
     }
 
     #[inline(always)]
-    fn choose(&mut self, number: usize, Node { a, b, c, .. }: Node) -> Read {
-        let (condition, then, otherwise) = (self.part(a), self.part(b), self.part(c));
-        self.reach[number] = self.reach[b].max(self.reach[c]);
-        let either = then | otherwise;
-        self.ask_single(15, number, condition, either);
-        let fits = are(condition, EXPRESSION) && are(then & otherwise, STATEMENT);
-        let locally = are(either, LEAVES) && !are(condition, SINGLE);
-        let facts = if locally {
-            either | LEAVES_LOCALLY
-        } else {
-            either
-        };
-        (true, fits, facts)
+    fn sequence(&mut self, node: Node) -> Option<bool> {
+        node.unnamed(C)?;
+        self.pass_on(node.a(), node.b(), false);
+        Some(self.statement(node.a())? | self.statement(node.b())?)
     }
 
     #[inline(always)]
-    fn repeat(&mut self, number: usize, Node { a, b, c, .. }: Node) -> Read {
-        let (condition, body) = (self.part(a), self.part(b));
-        self.reach[number] = self.reach[b];
-        let local = if are(body, LEAVES_LOCALLY) { SINGLE } else { 0 };
-        self.ask_single(16, number, condition & !local, body);
-        let fits = are(condition, EXPRESSION) && are(body, STATEMENT);
-        (c == 0, fits, body & !(LEAVES | LEAVES_LOCALLY))
+    fn choose(&mut self, node: Node) -> Option<bool> {
+        let local = self.expression(node.a())?;
+        self.pass_on(node.b(), node.c(), local);
+        let effect = self.statement(node.b())? | self.statement(node.c())?;
+        self.ruled(15, effect, local)
+    }
+
+    /// If it is left locally, its condition counts as local.
+    #[inline(always)]
+    fn repeat(&mut self, node: Node) -> Option<bool> {
+        node.unnamed(C)?;
+        let local = self.expression(node.a())? | self.is_left_locally(node.b());
+        let effect = self.statement(node.b())?;
+        self.ruled(16, effect, local)
     }
 
     /// The flag decides, not the body.
     #[inline(always)]
-    fn call(&mut self, number: usize, Node { a, b, c, .. }: Node) -> Read {
-        let called = self.table.procedures.get(a);
-        let effect = called.map_or(0, |word| (word[1] >> 7) * EFFECT);
-        self.reach[number] = a as u8 + 1;
-        (b | c == 0, called.is_some(), STATEMENT | effect)
+    fn call(&mut self, procedure: usize, node: Node) -> Option<bool> {
+        node.unnamed(B | C)?;
+        let called = self.table.procedures.get(node.a())?;
+        if node.a() >= procedure {
+            self.goes_up = self.goes_up.or(12, self.before.len());
+        }
+        Some(has_effect(called))
     }
 
     #[inline(always)]
-    fn latch(&mut self, Node { a, b, c, .. }: Node) -> Read {
-        let both = self.part(a) & self.part(b);
-        (c == 0, are(both, EXPRESSION), STATEMENT)
+    fn broadcast(&mut self, node: Node) -> Option<bool> {
+        self.table.variable(node.a())?;
+        self.expression(node.b())?;
+        let local = self.expression(node.c())?;
+        self.ruled(14, true, local)
     }
 
     #[inline(always)]
-    fn broadcast(&mut self, number: usize, Node { a, b, c, .. }: Node) -> Read {
-        let (value, source) = (self.part(b), self.part(c));
-        self.ask_single(14, number, source, EFFECT);
-        let fits = a < self.table.variables && are(value & source, EXPRESSION);
-        (true, fits, STATEMENT | EFFECT)
+    fn leave(&mut self, node: Node) -> Option<bool> {
+        node.unnamed(A | B | C)?;
+        self.has_leaves = true;
+        self.planes.put(Plane::Leaves, self.before.len());
+        Some(false)
+    }
+}
+
+/// The parts of a node.
+impl<const JUDGED: bool> Reader<'_, JUDGED> {
+    /// Whether it is not single, or `None` if it is no expression before the node.
+    #[inline(always)]
+    fn expression(&mut self, part: usize) -> Option<bool> {
+        let word = self.before.get(part)?;
+        (!is_statement(word)).then(|| self.part(part))
     }
 
+    /// Whether it has a global effect, or `None` if it is no statement before the node.
     #[inline(always)]
-    fn exchange(&mut self, Node { a, b, c, .. }: Node) -> Read {
-        let fits = are(self.part(a), EXPRESSION);
-        (b | c == 0, fits, STATEMENT | EFFECT)
+    fn statement(&mut self, part: usize) -> Option<bool> {
+        let word = self.before.get(part)?;
+        is_statement(word).then(|| self.part(part))
+    }
+
+    /// The fact of a part or a body, which has one use more.
+    #[inline(always)]
+    fn part(&mut self, node: usize) -> bool {
+        self.uses += 1;
+        self.planes.put(Plane::Used, node);
+        JUDGED && self.planes.has(Plane::Fact, node)
+    }
+
+    /// What has an effect may not depend on a local expression.
+    #[inline(always)]
+    fn ruled(&mut self, question: u32, effect: bool, local: bool) -> Option<bool> {
+        if effect && local {
+            self.rule = self.rule.or(question, self.before.len());
+        }
+        Some(effect)
+    }
+
+    /// The node takes over the leaves of its parts, which are not marked as used yet.
+    #[inline(always)]
+    fn pass_on(&mut self, first: usize, second: usize, mut local: bool) {
+        let planes = &mut self.planes;
+        let leaves = |part| planes.has(Plane::Leaves, part);
+        if !self.has_leaves || !(leaves(first) || leaves(second)) {
+            return;
+        }
+        for part in [first, second] {
+            local |= planes.take(Plane::Leaves, part) && planes.has(Plane::Used, part);
+        }
+        planes.put(Plane::Leaves, self.before.len());
+        if local {
+            planes.put(Plane::Used, self.before.len());
+        }
+    }
+
+    /// Of a while's body, which is not marked as used yet. Its leaves end here.
+    #[inline(always)]
+    fn is_left_locally(&mut self, body: usize) -> bool {
+        let planes = &mut self.planes;
+        self.has_leaves && planes.take(Plane::Leaves, body) && planes.has(Plane::Used, body)
     }
 }

@@ -5,6 +5,11 @@ use finchchaise::Refusal;
 
 const MOST_NODES: usize = 256;
 
+/// The fields of a node's word.
+pub const A: u32 = 0x1FF << 18;
+pub const B: u32 = 0x1FF << 9;
+pub const C: u32 = 0x1FF;
+
 /// A table that has passed questions 2 to 6. It stays in its bytes.
 pub struct Table<'bytes> {
     pub variables: usize,
@@ -13,28 +18,57 @@ pub struct Table<'bytes> {
     pub nodes: &'bytes [[u8; 4]],
 }
 
+/// A node's word. A field is taken out of it where it is needed.
 #[derive(Clone, Copy)]
-pub struct Node {
-    pub kind: u32,
-    pub a: usize,
-    pub b: usize,
-    pub c: usize,
-}
+pub struct Node(u32);
 
 impl Node {
+    #[inline(always)]
     pub fn of(word: [u8; 4]) -> Node {
-        let word = u32::from_be_bytes(word);
-        let field = |shift: u32| (word >> shift & 0x1FF) as usize;
-        Node {
-            kind: word >> 27,
-            a: field(18),
-            b: field(9),
-            c: field(0),
-        }
+        Node(u32::from_be_bytes(word))
+    }
+
+    #[inline(always)]
+    pub fn kind(self) -> u32 {
+        self.0 >> 27
+    }
+
+    #[inline(always)]
+    pub fn a(self) -> usize {
+        (self.0 >> 18 & 0x1FF) as usize
+    }
+
+    #[inline(always)]
+    pub fn b(self) -> usize {
+        (self.0 >> 9 & 0x1FF) as usize
+    }
+
+    #[inline(always)]
+    pub fn c(self) -> usize {
+        (self.0 & 0x1FF) as usize
+    }
+
+    /// `None` if one of these fields, for which its kind has no use, is not 0.
+    #[inline(always)]
+    pub fn unnamed(self, fields: u32) -> Option<()> {
+        (self.0 & fields == 0).then_some(())
     }
 }
 
+/// Kinds from 16 on, known or not.
+#[inline(always)]
+pub fn is_statement(word: &[u8; 4]) -> bool {
+    word[0] >> 7 == 1
+}
+
+/// Of a procedure's word.
+#[inline(always)]
+pub fn has_effect(word: &[u8; 4]) -> bool {
+    word[1] >> 7 == 1
+}
+
 impl Table<'_> {
+    #[inline(always)]
     pub fn of(bytes: &[u8]) -> Result<Table<'_>, Refusal> {
         let (words, rest) = bytes.as_chunks();
         if !rest.is_empty() || !(4..=274).contains(&words.len()) {
@@ -85,24 +119,30 @@ impl Table<'_> {
         Node::of(self.nodes[number])
     }
 
+    /// Also asked of numbers that no node has.
+    pub fn is_statement(&self, number: usize) -> bool {
+        self.nodes.get(number).is_some_and(is_statement)
+    }
+
     /// The nearest while around a statement. Each node around it is above the one before, so they
     /// are found in one pass.
     pub fn while_around(&self, statement: usize) -> Option<usize> {
         let mut inner = statement;
         for number in statement + 1..self.nodes.len() {
-            let Node { kind, a, b, c } = self.node(number);
-            match kind {
-                20 if b == inner => return Some(number),
-                18 if a == inner || b == inner => inner = number,
-                19 if b == inner || c == inner => inner = number,
+            let node = self.node(number);
+            match node.kind() {
+                20 if node.b() == inner => return Some(number),
+                18 if node.a() == inner || node.b() == inner => inner = number,
+                19 if node.b() == inner || node.c() == inner => inner = number,
                 _ => (),
             }
         }
         None
     }
 
-    /// Also asked of numbers that are no variable, whose table is then refused.
-    pub fn is_flagged(&self, variable: usize) -> bool {
-        self.flags >> (31 - variable % 32) & 1 == 1
+    /// Whether a variable is flagged, if there is one of this number.
+    #[inline(always)]
+    pub fn variable(&self, number: usize) -> Option<bool> {
+        (number < self.variables).then(|| self.flags << number >> 31 == 1)
     }
 }

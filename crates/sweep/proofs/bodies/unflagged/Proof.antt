@@ -20,7 +20,7 @@ unfolding leastBelow
 loop-holds c =
     let start = c .before .before in
     let table = start .args .table .now in
-    (omega arith, omega (arith, start .pre .2 .1, least-high (ruleCode table) (nodes table)))
+    (omega arith, omega (arith, start .pre .3, least-high (ruleCode table) (nodes table)))
 
 flag-body-requires : tie.Need-flag-body-requires Inv-loop μ-loop
 flag-body-requires c κs =
@@ -28,7 +28,7 @@ flag-body-requires c κs =
     let start = at-loop .before .before .before in
     let given = start .pre in
     let high = least-high (flagCode (start .args .table .now)) (at-loop .loop .p) in
-    ((given .0, omega arith, given .1, omega (arith, at-loop .loop .inv .1, high)), given .2 .0)
+    ((given .0, omega arith, given .1, omega (arith, at-loop .loop .inv .1, high)), given .2)
 
 add-p : tie.Need-add-p Inv-loop μ-loop
 add-p c = omega arith
@@ -49,7 +49,7 @@ returns c =
     let start = c .before .before .before .before in
     let given = start .pre in
     let all : loop .p ≡ procedures (start .args .table .now) = omega (arith, given .0 .sized .procedures-read) in
-    rw (← all, ← given .2 .1) (loop .inv .1)
+    rw (← all, ← given .3) (loop .inv .1)
 
 pub unflagged-spec : {M : Type 1} → statement M
 unflagged-spec =

@@ -9,13 +9,13 @@ use Rattle.sweep.proofs.nodes.sweep_blocks.Statement.{statement}
 use Rattle.sweep.proofs.nodes.sweep_blocks.Tie as tie
 
 abbrev Inv-loop : tie.InvT-loop
-Inv-loop table header planes₀ judged count rule₀ n₀ p₀ planes rule n p = Blocking table judged planes n p rule
+Inv-loop table header planes₀ count rule₀ n₀ p₀ planes rule n p = Blocking table planes n p rule
 
 abbrev μ-loop : tie.MeasureT-loop
-μ-loop table header planes₀ judged count rule₀ n₀ p₀ planes rule n p = count - p
+μ-loop table header planes₀ count rule₀ n₀ p₀ planes rule n p = count - p
 
 loop-holds : tie.Need-loop-holds Inv-loop μ-loop
-loop-holds c = rw (c .before .before .pre .1) (blocking-none _ _)
+loop-holds c = rw (c .before .before .pre .1) (blocking-none _)
 
 block-end-requires : tie.Need-block-end-requires Inv-loop μ-loop
 block-end-requires c κs = (c .before .before .before .before .pre .0, omega arith)
@@ -26,7 +26,7 @@ same-length c =
     c .before .before .before .loop .inv .size ∙ sym (ap length (given .1))
 
 returns : tie.Need-returns Inv-loop μ-loop
-returns c = blocking-stops _ _ (c .before .before .before .loop .inv)
+returns c = blocking-stops _ (c .before .before .before .loop .inv)
 
 sweep-quickly-requires : tie.Need-sweep-quickly-requires Inv-loop μ-loop
 sweep-quickly-requires c κs =
@@ -46,7 +46,7 @@ returns-2 c =
     let so-far = asked .before .before .loop in
     let end = block-is _ _ (so-far .n) _ (asked .block-end .ensures) (omega arith) in
     let swept = c .before .before .before .sweep-quickly .ensures in
-    block-stops _ _ (so-far .inv) _ _ (omega (arith, end .0, end .1)) _ _ swept
+    block-stops _ (so-far .inv) _ _ (omega (arith, end .0, end .1)) _ _ swept
 
 add-p : tie.Need-add-p Inv-loop μ-loop
 add-p c = omega arith
@@ -61,7 +61,7 @@ loop-again c =
     let so-far = asked .before .before .loop in
     let end = block-is _ _ (so-far .n) _ (asked .block-end .ensures) (omega arith) in
     let swept = c .before .before .before .sweep-quickly .ensures in
-    block-more _ _ (so-far .inv) _ _ (omega (arith, end .0, end .1)) _ _ swept
+    block-more _ (so-far .inv) _ _ (omega (arith, end .0, end .1)) _ _ swept
     (omega (arith, given .procedures-read)) (omega arith) (end .0) (λ less. omega arith)
 
 same-length-3 : tie.Need-same-length-3 Inv-loop μ-loop
@@ -70,7 +70,7 @@ same-length-3 c = c .before .loop .inv .size ∙ sym (ap length (c .before .befo
 returns-3 : tie.Need-returns-3 Inv-loop μ-loop
 returns-3 c =
     let given = c .before .before .before .before .pre .0 in
-    blocking-ends _ _ (c .before .loop .inv) (omega (arith, c .before .loop .inv .within, given .procedures-read))
+    blocking-ends _ (c .before .loop .inv) (omega (arith, c .before .loop .inv .within, given .procedures-read))
 
 pub sweep-blocks-spec : {M : Type 1} → statement M
 sweep-blocks-spec =

@@ -18,28 +18,31 @@ loop-holds c =
     let given = c .before .before .before .pre in
     going-none _ _ _ _ _ (given .1) (given .3) (given .4)
 
+packed-at-requires : tie.Need-packed-at-requires Inv-loop μ-loop
+packed-at-requires c κs =
+    let given = c .before .before .before .before .before .pre in
+    (given .0 .read, omega (arith, given .2, given .0 .nodes-read, given .0 .procedures-read, given .0 .size), omega (arith, given .2))
+
 quick-requires : tie.Need-quick-requires Inv-loop μ-loop
 quick-requires c κs =
-    let given = c .before .before .before .before .before .before .pre in
-    (given .0, omega (arith, given .2), c .before .before .loop .inv .size)
+    let given = c .before .before .before .before .before .before .before .pre in
+    ((given .0, omega (arith, given .2), c .before .before .before .loop .inv .size), c .before .packed-at .ensures)
 
 same-length : tie.Need-same-length Inv-loop μ-loop
-same-length c =
-    let given = c .before .before .before .before .before .before .before .before .before .before .pre in
-    c .before .before .before .quick .ensures .size ∙ sym (given .3)
+same-length c = c .before .before .before .quick .ensures .size ∙ sym (c .before .before .before .before .before .before .before .before .before .before .before .pre .3)
 
 returns : tie.Need-returns Inv-loop μ-loop
 returns c =
-    let so-far = c .before .before .before .before .before .before .loop .inv in
+    let so-far = c .before .before .before .before .before .before .before .loop .inv in
     let visited = c .before .before .before .quick .ensures in
     let still = visited .same (c .if1 .taken) in
     record {
       going = rw still so-far;
-      stuck = λ inside low all. rw still (visited .stuck (c .if1 .taken) low all);
+      stuck = λ inside all. rw still (visited .stuck (c .if1 .taken) all);
     }
 
 lesser-requires : tie.Need-lesser-requires Inv-loop μ-loop
-lesser-requires c κs = c .before .before .before .before .before .before .loop .inv .low
+lesser-requires c κs = c .before .before .before .before .before .before .before .loop .inv .low
 
 add-n : tie.Need-add-n Inv-loop μ-loop
 add-n c = omega arith
@@ -49,8 +52,8 @@ loop-less c = omega arith
 
 loop-again : tie.Need-loop-again Inv-loop μ-loop
 loop-again c =
-    let given = c .before .before .before .before .before .before .before .before .before .before .before .pre in
-    let turn = c .before .before .before .before .before .before in
+    let given = c .before .before .before .before .before .before .before .before .before .before .before .before .pre in
+    let turn = c .before .before .before .before .before .before .before in
     going-more _ _ _ _ _ (given .0) (omega (arith, given .2, given .0 .nodes-read)) _ _ _ _ _ _ (turn .before .loop .inv)
     (turn .loop-test .taken) (c .before .before .before .before .quick .ensures) (c .before .if1 .left) (c .lesser .ensures)
 
@@ -58,7 +61,7 @@ same-length-2 : tie.Need-same-length-2 Inv-loop μ-loop
 same-length-2 c = c .before .loop .inv .size ∙ sym (c .before .before .before .before .before .pre .3)
 
 returns-2 : tie.Need-returns-2 Inv-loop μ-loop
-returns-2 c = record { going = c .before .loop .inv; stuck = λ inside low all. absurd (omega arith) }
+returns-2 c = record { going = c .before .loop .inv; stuck = λ inside all. absurd (omega arith) }
 
 pub sweep-quickly-spec : {M : Type 1} → statement M
 sweep-quickly-spec =
@@ -67,6 +70,7 @@ sweep-quickly-spec =
     Inv-loop
     μ-loop
     loop-holds
+    packed-at-requires
     quick-requires
     same-length
     returns

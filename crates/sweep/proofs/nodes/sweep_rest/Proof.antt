@@ -10,11 +10,11 @@ use Rattle.sweep.proofs.nodes.sweep_rest.Statement.{statement}
 use Rattle.sweep.proofs.nodes.sweep_rest.Tie as tie
 
 abbrev Inv-loop : tie.InvT-loop
-Inv-loop table header planes₀ judged blocked count limit best₀ reached₀ planes best reached =
-    Resting table judged planes best reached
+Inv-loop table header planes₀ blocked count limit best₀ reached₀ planes best reached =
+    Resting table planes best reached
 
 abbrev μ-loop : tie.MeasureT-loop
-μ-loop table header planes₀ judged blocked count limit best₀ reached₀ planes best reached = count - reached .node
+μ-loop table header planes₀ blocked count limit best₀ reached₀ planes best reached = count - reached .node
 
 sweep-quickly-requires : tie.Need-sweep-quickly-requires Inv-loop μ-loop
 sweep-quickly-requires c κs =
@@ -25,7 +25,7 @@ sweep-quickly-requires c κs =
 loop-holds : tie.Need-loop-holds Inv-loop μ-loop
 loop-holds c =
     let given = c .before .before .before .before .before .before .pre in
-    resting-none _ _ (given .0) _ _ _ _ _ (given .1) (c .before .before .sweep-quickly .ensures)
+    resting-none _ _ (given .0) _ _ _ _ (given .1) (c .before .before .sweep-quickly .ensures)
 
 sub-exact : tie.Need-sub-exact Inv-loop μ-loop
 sub-exact c = search needs
@@ -42,8 +42,8 @@ exact-requires c κs =
     let loop = c .before .before .before .loop in
     (given .0, omega arith, used-length (loop .planes) (loop .inv .size))
 
-add-t17 : tie.Need-add-t17 Inv-loop μ-loop
-add-t17 c = omega arith
+add-t16 : tie.Need-add-t16 Inv-loop μ-loop
+add-t16 c = omega arith
 
 sweep-quickly-requires-2 : tie.Need-sweep-quickly-requires-2 Inv-loop μ-loop
 sweep-quickly-requires-2 c κs =
@@ -63,7 +63,7 @@ loop-again c =
     let turn = c .before .before .before .before .before .before .before .before .before .before in
     let given = turn .before .before .before .before .before .before .before .pre in
     let exact = c .before .before .before .before .before .before .exact .ensures in
-    resting-more _ _ (given .0) _ _ _ _ _ _ _ _ (turn .loop .inv) (omega (arith, given .0 .nodes-read)) (exact .0) (exact .1)
+    resting-more _ _ (given .0) _ _ _ _ _ _ _ (turn .loop .inv) (omega (arith, given .0 .nodes-read)) (exact .0) (exact .1)
     (c .before .before .sweep-quickly2 .ensures)
 
 same-length : tie.Need-same-length Inv-loop μ-loop
@@ -74,7 +74,7 @@ same-length c =
 returns : tie.Need-returns Inv-loop μ-loop
 returns c =
     let given = c .before .before .before .before .before .before .before .before .before .pre in
-    resting-ends _ _ (given .0) _ _ _ _ _ _ (c .before .before .loop .inv) (λ less. omega arith) (given .1)
+    resting-ends _ _ (given .0) _ _ _ _ _ (c .before .before .loop .inv) (λ less. omega arith) (given .1)
 
 pub sweep-rest-spec : {M : Type 1} → statement M
 sweep-rest-spec =
@@ -88,7 +88,7 @@ sweep-rest-spec =
     part-exact-start
     part-exact-end
     exact-requires
-    add-t17
+    add-t16
     sweep-quickly-requires-2
     loop-less
     loop-again

@@ -1,6 +1,7 @@
 -- `words::kind_at` meets its contract.
+use mathlib.Core.Path.{_∙_}
 use Rattle.table.specs.Header.{headerOf}
-use Rattle.rules.specs.Table.{nodeAt, unpacked}
+use Rattle.rules.specs.Table.{nodeAt}
 use borrow.Author.Needs.{needs}
 use Rattle.table.proofs.words.kind_at.Statement.{statement}
 use Rattle.table.proofs.words.kind_at.Tie as tie
@@ -14,9 +15,12 @@ add-word-2 c = search needs
 word-requires : tie.Need-word-requires
 word-requires c κs = search needs
 
+kind-of-requires : tie.Need-kind-of-requires
+kind-of-requires c κs = search needs
+
 returns : tie.Need-returns
-unfolding nodeAt unpacked headerOf
-returns c = simp (c .word .ensures, c .before .before .before .pre .0)
+unfolding nodeAt headerOf
+returns c = c .kind-of .ensures ∙ simp (c .before .word .ensures, c .before .before .before .before .pre .0)
 
 pub kind-at-spec : {M : Type 1} → statement M
-kind-at-spec = tie.close (tie.spec add-word add-word-2 word-requires returns)
+kind-at-spec = tie.close (tie.spec add-word add-word-2 word-requires kind-of-requires returns)

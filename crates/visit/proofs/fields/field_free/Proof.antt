@@ -24,8 +24,8 @@ returns-2 c =
     let zero = c .before .before in
     simp (passed (zero .before .field-zero .ensures) (zero .if1 .left), failed (c .before .field-fits .ensures) (c .if2 .taken))
 
-enclosed-requires : tie.Need-enclosed-requires
-enclosed-requires c κs = search needs
+within-requires : tie.Need-within-requires
+within-requires c κs = search needs
 
 returns-3 : tie.Need-returns-3
 unfolding fieldFree
@@ -35,7 +35,7 @@ returns-3 c =
     simp (
       passed (zero .before .field-zero .ensures) (zero .if1 .left),
       passed (fits .before .field-fits .ensures) (fits .if2 .left),
-      failed (c .before .enclosed .ensures) (c .if3 .taken),
+      failed (c .before .within .ensures) (c .if3 .taken),
     )
 
 is-part-requires : tie.Need-is-part-requires
@@ -59,7 +59,7 @@ returns-4 c =
     simp (
       passed (zero .before .field-zero .ensures) (zero .if1 .left),
       passed (fits .before .field-fits .ensures) (fits .if2 .left),
-      passed (inside .before .enclosed .ensures) (inside .if3 .left),
+      passed (inside .before .within .ensures) (inside .if3 .left),
       sym (part .before .is-part .ensures) ∙ part .if4 .taken,
       c .marked .ensures,
     )
@@ -73,7 +73,7 @@ returns-5 c =
     simp (
       passed (zero .before .field-zero .ensures) (zero .if1 .left),
       passed (fits .before .field-fits .ensures) (fits .if2 .left),
-      passed (inside .before .enclosed .ensures) (inside .if3 .left),
+      passed (inside .before .within .ensures) (inside .if3 .left),
       sym (c .before .is-part .ensures) ∙ c .if4 .left,
     )
 
@@ -85,7 +85,7 @@ field-free-spec =
     returns
     field-fits-requires
     returns-2
-    enclosed-requires
+    within-requires
     returns-3
     is-part-requires
     marked-requires

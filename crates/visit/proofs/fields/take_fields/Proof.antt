@@ -3,7 +3,7 @@ use mathlib.Core.Path.{refl, sym}
 use native.Mathlib.Omega.{arith}
 use Rattle.table.proofs.TestLaws.{never}
 use Rattle.visit.proofs.LeastLaws.{passed, failed}
-use Rattle.visit.proofs.QuickLaws.{markable, three, part-low, free-bit, b-still, c-still, used-three}
+use Rattle.visit.proofs.QuickLaws.{markable, three, part-low, used-three}
 use borrow.Author.Needs.{needs}
 use Rattle.visit.proofs.fields.take_fields.Statement.{statement}
 use Rattle.visit.proofs.fields.take_fields.Tie as tie
@@ -29,7 +29,7 @@ take-requires c κs =
     let given = free .before .before .before .before .before .pre in
     let t = three _ _ _ _ _ (passed (free .before .fields-free .ensures) (free .if1 .left)) in
     rw (c .before .digit .ensures) (
-      λ part. (markable (given .0) (given .1) (part-low _ _ _ _ _ (t .a) part), free-bit _ _ _ _ _ (t .a) part),
+      λ part. markable (given .0) (given .1) (part-low _ _ _ _ _ (t .a) part),
       given .2,
     )
 
@@ -45,12 +45,8 @@ take-requires-2 c κs =
     let free = first .before .before .before .before in
     let given = free .before .before .before .before .before .pre in
     let t = three _ _ _ _ _ (passed (free .before .fields-free .ensures) (free .if1 .left)) in
-    let after = rw (first .before .before .digit .ensures) at (first .take .ensures) in
     rw (c .before .digit2 .ensures) (
-      λ part. (
-        markable (given .0) (given .1) (part-low _ _ _ _ _ (t .b) part),
-        rw after (b-still _ _ _ _ _ t part),
-      ),
+      λ part. markable (given .0) (given .1) (part-low _ _ _ _ _ (t .b) part),
       omega (arith, first .take .kept .0, given .2),
     )
 
@@ -67,13 +63,8 @@ take-requires-3 c κs =
     let free = first .before .before .before .before in
     let given = free .before .before .before .before .before .pre in
     let t = three _ _ _ _ _ (passed (free .before .fields-free .ensures) (free .if1 .left)) in
-    let after-first = rw (first .before .before .digit .ensures) at (first .take .ensures) in
-    let after-second = rw (second .before .before .digit2 .ensures) at (second .take2 .ensures) in
     rw (c .before .digit3 .ensures) (
-      λ part. (
-        markable (given .0) (given .1) (part-low _ _ _ _ _ (t .c) part),
-        rw (after-second, after-first) (c-still _ _ _ _ _ t part),
-      ),
+      λ part. markable (given .0) (given .1) (part-low _ _ _ _ _ (t .c) part),
       omega (arith, first .take .kept .0, second .take2 .kept .0, given .2),
     )
 
