@@ -1,5 +1,6 @@
-// Questions 2 to 12, 26 and 13 to 17 in one exact sweep: each node once, each procedure once, and the least refusal kept. "Lowest number first, then
-// lowest place" is the least of all refusals, so they may be met in any order.
+// Questions 2 to 12, 26 and 13 to 17 in one exact sweep: each node once, each procedure once, and the least refusal kept. "Lowest number
+// first, then lowest place" is the least of all refusals, so they may be met in any order. Where there are leaves, the nodes are passed
+// over once more for them.
 ghost use mathlib.Core.Bool.{true};
 ghost use mathlib.Core.Path.{_≡_};
 ghost use lib.ListN.{length, replicate};
@@ -33,16 +34,16 @@ use visit::least::verdict;
 mod bodies; // bodies.rt: questions 6, 10 and 17, and 11 of nodes that are not used
 mod nodes; // nodes.rt: questions 7, 8, 9, 13 to 16 and 11 of nodes that are used twice
 
-// The words of the planes; the first of them serves question 12 once the nodes are swept.
+// The words of the planes; once the nodes are swept, the first plane serves question 12 and then the leaves.
 pub const PLANE_WORDS: usize = PLANES;
 
-// How far a sweep got, and the least refusal of 13 to 16 on the way.
+// How far a sweep got, and the least refusal of 13 to 16 on the way, as far as that does not look at leaves.
 pub struct Reached {
     pub node: usize,
     pub rule: usize,
 }
 
-// The same, and whether every procedure had its block, in their order.
+// The same, and whether the bodies stood in their procedures' order and every call went down.
 pub struct Blocked {
     pub node: usize,
     pub rule: usize,
@@ -56,7 +57,7 @@ pub struct Found {
     pub ordered: bool,
 }
 
-// Question 12 of a table that passes 2 to 11: the walk only where the procedures do not lie in blocks.
+// Question 12 of a table that passes 2 to 11: the walk only where the bodies do not stand in order, or a call seems to go up.
 fn first_call(table: &[u8], header: Header, planes: &mut [u32], ordered: bool) -> usize
     requires { ⌜ Filled (now table) header × (length (now planes) ≡ allPlanes) × (ordered ≡ true → question12 (now table) ≡ Accepted) ⌝ }
     ensures { λ r. ⌜ FirstCall (now (table .entry)) (now (planes .entry)) (now (planes .exit)) r ⌝ }

@@ -1,4 +1,4 @@
-// All nodes in their order: quickly while nothing fails, in the blocks of the procedures as long as these follow one another.
+// All nodes in their order: quickly while nothing fails, from body to body as long as these stand in their procedures' order.
 ghost use mathlib.Core.Bool.{cond};
 ghost use mathlib.Core.Path.{_≡_};
 ghost use Prim.Native.Nat.{_+_, _<_, _≤_};
@@ -60,7 +60,7 @@ fn sweep_quickly(
     }
 }
 
-// The end of procedure p's block, which its body is the last node of; 0 where the body is no node.
+// The end of the block of procedure p, which is the nodes up to its body; 0 where the body is no node.
 fn block_end(table: &[u8], header: Header, p: usize) -> usize
     requires { ⌜ Sized (now table) header × (p < header .procedures) ⌝ }
     ensures { λ r. ⌜ r ≡ cond (ltb (body (now (table .entry)) p) (nodes (now (table .entry)))) (body (now (table .entry)) p + 1) 0 ⌝ }
@@ -69,7 +69,7 @@ fn block_end(table: &[u8], header: Header, p: usize) -> usize
     if last < header.nodes { last + 1 } else { 0 }
 }
 
-// Block by block, as long as each procedure's nodes stand together and call lower procedures only.
+// Block by block: the nodes up to each body, as long as the bodies stand in their procedures' order and the nodes call lower ones only.
 fn sweep_blocks(table: &[u8], header: Header, planes: &mut [u32]) -> Blocked
     requires { ⌜ Sized (now table) header × (now planes ≡ replicate allPlanes 0) ⌝ }
     ensures { λ r. ⌜ InBlocks (now (table .entry)) (now (planes .exit)) r ⌝ }

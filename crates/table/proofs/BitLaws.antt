@@ -161,7 +161,6 @@ bit-other m n k other =
     (λ j apart. bit-kept (getD m (n / 32) 0) (n % 32) j apart (bit-clear m n e))))
     (bool-cases (bitAt m n))
 
--- taking a mark off clears the bit, and no other
 -- zeroed words mark nothing
 pub bit-zero : (count k : ℕ) → bitAt (replicate count 0) k ≡ false
 unfolding bitAt hasBit

@@ -8,7 +8,7 @@ use native.Mathlib.Decide.{ℕ-discrete}
 use native.Mathlib.Omega.{arith}
 use lib.Dec.{leb, eqb}
 use lib.ListN.{getD}
-use borrow.Author.Tests.{ltb-true, not-true, eqb-false, ne-eqb}
+use borrow.Author.Tests.{ltb-true, not-true, eqb-false}
 use Rattle.rules.specs.declared.Node.{Node}
 use Rattle.rules.specs.Table.{Statement, nothing, assign, sequence, branch, loop, call, latch, collective, leave}
 use Rattle.rules.specs.Table.{nodeAt, statementOf, statementAt, firstStatement, lastExpression, lastStatement}
