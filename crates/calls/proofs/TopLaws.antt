@@ -4,15 +4,15 @@ use mathlib.Core.List.{List}
 use mathlib.Core.Path.{_≡_, sym, _∙_, ap}
 use Prim.Native.Nat.{ℕ, suc, _+_, _-_, _*_, _/_, _%_, _^_, _≤_, _<_}
 use native.Mathlib.Decide.{decLt, ℕ-discrete}
-use native.Mathlib.Nat.{zero-div, div-eq-of-lt}
+use native.Mathlib.Nat.{zero-div, div-eq-of-lt, div-lt-iff-lt-mul, one-mul}
 use native.Mathlib.Numerals.{add-one}
 use native.Mathlib.Omega.{arith}
 use lib.Count.{leadingZeros, leading-top}
 use lib.ListN.{length, getD, set, replicate, length-set, getD-replicate}
-use lib.Pow.{pow-mono, pow-add}
+use lib.Pow.{pow-pos, pow-mono, pow-add}
 use lib.Seq.{getD-set-same, getD-set-other, ext-getD}
-use Rattle.table.specs.Marks.{hasBit, bitAt}
-use Rattle.table.proofs.BitLaws.{bit-added, bit-kept, shifted}
+use Rattle.table.specs.Marks.{hasBit, bitAt, withBit}
+use Rattle.table.proofs.BitLaws.{bit-added, bit-kept, bit-same, bit-other, shifted}
 use Rattle.calls.specs.Walk.{ClearFrom, Topped, empty, taken}
 
 -- the place of the highest bit
@@ -109,3 +109,30 @@ pub top-answer : (m₀ m : List ℕ) (k j : ℕ) → m ≡ m₀ → length m₀ 
 top-answer m₀ m k j e size pos few low at-least under above =
     rw (shifted j low, add-one (32 * (k - 1) + j), ← e)
     (topped m (ap length e ∙ size) (k - 1) j (omega arith) low at-least under (λ i more inside. above i (omega arith) inside))
+
+-- a node above which nothing waits is the highest once it waits too
+module _ (m : List ℕ) (n a : ℕ) (size : length m ≡ 8) (few : n < 256) (below : a < n) (clear-above : ClearFrom m (n / 32 + 1))
+    (same : a / 32 ≡ n / 32) (none : getD m (a / 32) 0 / 2 ^ (a % 32) ≡ 0) where
+  low-word : getD m (a / 32) 0 < 2 ^ (a % 32)
+  low-word =
+      let one : getD m (a / 32) 0 / 2 ^ (a % 32) < 1 = omega arith in
+      rw (one-mul (2 ^ (a % 32))) at (div-lt-iff-lt-mul (pow-pos (a % 32)) .0 one)
+
+  free-from : (k : ℕ) → a ≤ k → k < 256 → bitAt m k ≡ false
+  unfolding bitAt
+  free-from k above inside =
+      elim (ℕ-discrete (k / 32) (a / 32)) [
+        | yes word ↦
+            let higher : a % 32 ≤ k % 32 = omega arith in
+            rw word (low-bit (getD m (a / 32) 0) (k % 32) (omega (arith, low-word, pow-mono {i = a % 32} {j = k % 32} higher)))
+        | no other ↦ rw (clear-above (k / 32) (omega arith) (omega arith)) (zero-bit (k % 32))
+      ]
+
+  pub next-top : Topped (withBit m a) m (suc a)
+  next-top =
+      taken a (omega arith) (bit-same m a (omega (arith, size)))
+      (λ k above inside. bit-other m a k (λ e. omega arith) ∙ free-from k (omega arith) inside)
+      (free-from a (omega arith) (omega arith))
+      (λ k other. sym (bit-other m a k other))
+      size
+      (rw same clear-above)

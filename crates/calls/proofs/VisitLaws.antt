@@ -1,21 +1,22 @@
--- A visit of a node, by its kind: the statements that it has wait are nodes below it, and what it answers and leaves.
+-- A visit of a node, by its kind: the statements that it has wait are nodes below it, and the lowest call so far.
 use mathlib.Core.Bool.{true, false, cond}
 use mathlib.Core.List.{List, [], _∷_}
 use mathlib.Core.Logic.{⊎-elim}
 use mathlib.Core.Path.{_≡_, refl, sym, _∙_, ap}
-use Prim.Native.Nat.{ℕ, _≤_, _<_}
-use native.Mathlib.Omega.{arith}
+use Prim.Native.Nat.{ℕ, _*_, _≤_, _<_}
+use lib.ListN.{length}
 use borrow.Author.Tests.{lt-ltb, le-ltb}
 use Rattle.rules.specs.declared.Node.{Node}
 use Rattle.rules.specs.Table.{Statement, nodes, nodeAt, statementOf, statementAt}
 use Rattle.rules.proofs.ChoiceLaws.{bool-cases}
-use Rattle.rules.proofs.KindLaws.{sequence-of, branch-of, loop-of, call-of}
+use Rattle.rules.proofs.KindLaws.{sequence-of, branch-of, loop-of, call-of, by-kind}
 use Rattle.table.specs.declared.Header.{Header}
-use Rattle.table.specs.Marks.{withBits}
+use Rattle.table.specs.Marks.{withBit, withBits}
 use Rattle.table.specs.Uses.{Fitting}
+use Rattle.table.proofs.BitLaws.{bit-same}
 use Rattle.calls.specs.Walk.{innerStatements, mayCall, callers, waiting, callsBelow}
 use Rattle.calls.proofs.TreeLaws.{In, first-in, one-more, part-in-below}
-use Rattle.calls.proofs.InnerLaws.{inner-in, quiet}
+use Rattle.calls.proofs.InnerLaws.{inner-in}
 
 pub inner-below : (table : List ℕ) (header : Header) → Fitting table header → (n a : ℕ) → n < nodes table
     → In a (innerStatements (statementAt table n)) → a < n
@@ -48,45 +49,72 @@ module _ (table : List ℕ) (n : ℕ) (m : Node) (read : m ≡ nodeAt table n) w
     unfolding innerStatements
     loop-fits e = fits (m .b) (loop-of m e) (first-in (m .b) [])
 
-  -- a visit answers r and leaves `after`
-  module _ (p low : ℕ) (marks : List ℕ) where
-    abbrev pub Visited : ℕ → List ℕ → Type 0
-    Visited r after =
-        (r ≡ cond (callsBelow p (statementAt table n)) low n)
-        × (after ≡ withBits marks (waiting table n))
+  -- what waits
 
-    abbrev Waited : List ℕ → ℕ → List ℕ → Type 0
-    Waited before a after = after ≡ withBits before (callers table (a ∷ []))
+  pub waits-sequence : m .kind ≡ 18 → waiting table n ≡ callers table (m .a ∷ m .b ∷ [])
+  unfolding innerStatements
+  waits-sequence e = rw (here (sequence-of m e))
 
-    both-wait : {m1 m2 : List ℕ} (a b : ℕ) → Waited marks a m1 → Waited m1 b m2 → m2 ≡ withBits marks (callers table (a ∷ b ∷ []))
-    unfolding callers withBits
-    both-wait a b first second =
-        second
-        ∙ ap (λ (x : List ℕ). withBits x (callers table (b ∷ []))) first
-        ∙ ⊎-elim (λ (e : mayCall table a ≡ true). simp e) (λ (e : mayCall table a ≡ false). simp e) (bool-cases (mayCall table a))
+  pub waits-branch : m .kind ≡ 19 → waiting table n ≡ callers table (m .b ∷ m .c ∷ [])
+  unfolding innerStatements
+  waits-branch e = rw (here (branch-of m e))
 
-    pub visited-sequence : {m1 m2 : List ℕ} → m .kind ≡ 18 → Waited marks (m .a) m1 → Waited m1 (m .b) m2 → Visited low m2
-    unfolding innerStatements callsBelow
-    visited-sequence e first second = rw (here (sequence-of m e)) (refl, both-wait (m .a) (m .b) first second)
+  pub waits-loop : m .kind ≡ 20 → waiting table n ≡ callers table (m .b ∷ [])
+  unfolding innerStatements
+  waits-loop e = rw (here (loop-of m e))
 
-    pub visited-branch : {m1 m2 : List ℕ} → m .kind ≡ 19 → Waited marks (m .b) m1 → Waited m1 (m .c) m2 → Visited low m2
-    unfolding innerStatements callsBelow
-    visited-branch e first second = rw (here (branch-of m e)) (refl, both-wait (m .b) (m .c) first second)
+  pub waits-other : (m .kind ≡ 18 → ⊥) → (m .kind ≡ 19 → ⊥) → (m .kind ≡ 20 → ⊥) → waiting table n ≡ []
+  unfolding innerStatements callers
+  waits-other h18 h19 h20 =
+      rw (here {s = statementOf m} refl)
+      (by-kind (λ s. callers table (innerStatements s) ≡ []) m (λ e. refl) (λ e. absurd (h18 e)) (λ e. absurd (h19 e))
+      (λ e. absurd (h20 e)) (λ e. refl) (λ e. refl) (λ e. refl) (λ e. refl) (λ e. refl) (λ e. refl) refl)
 
-    pub visited-loop : {m1 : List ℕ} → m .kind ≡ 20 → Waited marks (m .b) m1 → Visited low m1
-    unfolding innerStatements callsBelow
-    visited-loop e first = rw (here (loop-of m e)) (refl, first)
+  -- the lowest call so far
+  module _ (p low : ℕ) where
+    pub called-below : m .kind ≡ 21 → m .a < p → low ≡ cond (callsBelow p (statementAt table n)) low n
+    unfolding callsBelow
+    called-below e l = rw (here (call-of m e)) (simp (lt-ltb (m .a) p l))
 
-    pub visited-below : m .kind ≡ 21 → m .a < p → Visited low marks
-    unfolding innerStatements callsBelow callers withBits
-    visited-below e l = rw (here (call-of m e)) (simp (lt-ltb (m .a) p l), refl)
+    pub called-high : m .kind ≡ 21 → p ≤ m .a → n ≡ cond (callsBelow p (statementAt table n)) low n
+    unfolding callsBelow
+    called-high e l = rw (here (call-of m e)) (simp (le-ltb (m .a) p l))
 
-    pub visited-high : m .kind ≡ 21 → p ≤ m .a → Visited n marks
-    unfolding innerStatements callsBelow callers withBits
-    visited-high e l = rw (here (call-of m e)) (simp (le-ltb (m .a) p l), refl)
+    pub called-none : (m .kind ≡ 21 → ⊥) → low ≡ cond (callsBelow p (statementAt table n)) low n
+    unfolding callsBelow
+    called-none other =
+        rw (here {s = statementOf m} refl)
+        (by-kind (λ s. low ≡ cond (callsBelow p s) low n) m (λ e. refl) (λ e. refl) (λ e. refl) (λ e. refl)
+        (λ e. absurd (other e)) (λ e. refl) (λ e. refl) (λ e. refl) (λ e. refl) (λ e. refl) refl)
 
-    pub visited-other : (m .kind ≡ 18 → ⊥) → (m .kind ≡ 19 → ⊥) → (m .kind ≡ 20 → ⊥) → (m .kind ≡ 21 → ⊥) → Visited low marks
-    unfolding callers withBits
-    visited-other h18 h19 h20 h21 =
-        let still = quiet m h18 h19 h20 h21 in
-        rw (here {s = statementOf m} refl) (simp (still .1 p), simp (still .0))
+-- marks once the statements of a list wait that may hold a call
+module _ (table m : List ℕ) where
+  pub one-waits : (a : ℕ) → mayCall table a ≡ true → withBits m (callers table (a ∷ [])) ≡ withBit m a
+  unfolding callers withBits
+  one-waits a e = simp e
+
+  pub second-waits : (a b : ℕ) → mayCall table b ≡ true
+      → withBits m (callers table (a ∷ b ∷ [])) ≡ withBit (withBits m (callers table (a ∷ []))) b
+  unfolding callers withBits
+  second-waits a b e =
+      ⊎-elim (λ (f : mayCall table a ≡ true). simp (e, f)) (λ (f : mayCall table a ≡ false). simp (e, f))
+      (bool-cases (mayCall table a))
+
+  pub first-waits : (a b : ℕ) → mayCall table b ≡ false → withBits m (callers table (a ∷ b ∷ [])) ≡ withBits m (callers table (a ∷ []))
+  unfolding callers withBits
+  first-waits a b e =
+      ⊎-elim (λ (f : mayCall table a ≡ true). simp (e, f)) (λ (f : mayCall table a ≡ false). simp (e, f))
+      (bool-cases (mayCall table a))
+
+  pub none-waits : (a : ℕ) → mayCall table a ≡ false → withBits m (callers table (a ∷ [])) ≡ m
+  unfolding callers withBits
+  none-waits a e = simp e
+
+  -- a loop's body, which stands for both
+  pub twice-waits : (a : ℕ) → a < 32 * length m → withBits m (callers table (a ∷ a ∷ [])) ≡ withBits m (callers table (a ∷ []))
+  unfolding callers withBits
+  twice-waits a inside =
+      ⊎-elim
+      (λ (f : mayCall table a ≡ true). simp f (unfold withBit in simp (bit-same m a inside)))
+      (λ (f : mayCall table a ≡ false). simp f)
+      (bool-cases (mayCall table a))

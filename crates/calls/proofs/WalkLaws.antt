@@ -18,11 +18,10 @@ use Rattle.table.specs.Marks.{bitAt, withBit, withBits}
 use Rattle.table.specs.Uses.{Fitting}
 use Rattle.table.proofs.BitLaws.{bit-same, bit-other, bit-zero}
 use Rattle.table.proofs.TestLaws.{never}
-use Rattle.calls.specs.Walk.{innerStatements, mayCall, waiting, callsBelow, ownCalls, ClearFrom, Topped, empty, taken}
+use Rattle.calls.specs.Walk.{mayCall, callers, waiting, callsBelow, ownCalls, ClearFrom, Topped, empty, taken}
 use Rattle.calls.proofs.FoundLaws.{Found, found-first, found-none, found-passed, found-here}
-use Rattle.calls.proofs.InnerLaws.{callers-in, no-call}
-use Rattle.calls.proofs.TreeLaws.{In, first-in, one-more}
-use Rattle.calls.proofs.VisitLaws.{inner-below}
+use Rattle.calls.proofs.InnerLaws.{no-call}
+use Rattle.calls.proofs.VisitLaws.{one-waits, none-waits}
 use Rattle.calls.proofs.WaitLaws.{Wait, wait-start, wait-passed, wait-taken, waits}
 
 -- what a visit of node n leaves and answers
@@ -33,7 +32,7 @@ abbrev answers : List ℕ → ℕ → ℕ → ℕ → ℕ
 answers table p n low = cond (callsBelow p (statementAt table n)) low n
 
 -- words that hold no node, while nodes of lower words are marked
-clear-bit : (m : List ℕ) (k a : ℕ) → a / 32 < k → ClearFrom m k → ClearFrom (withBit m a) k
+pub clear-bit : (m : List ℕ) (k a : ℕ) → a / 32 < k → ClearFrom m k → ClearFrom (withBit m a) k
 unfolding withBit
 clear-bit m k a low clear =
     ⊎-elim
@@ -42,11 +41,12 @@ clear-bit m k a low clear =
     simp e (λ i above inside. getD-set-other m (a / 32) i _ 0 (λ same. omega arith) ∙ clear i above inside))
     (bool-cases (bitAt m a))
 
-clear-bits : (m u : List ℕ) (k : ℕ) → ((a : ℕ) → In a u → a / 32 < k) → ClearFrom m k → ClearFrom (withBits m u) k
-unfolding withBits
-clear-bits m [] k low clear = clear
-clear-bits m (a ∷ u) k low clear =
-    clear-bits (withBit m a) u k (λ b h. low b (one-more b a u h)) (clear-bit m k a (low a (first-in a u)) clear)
+pub waited-clear : (table m : List ℕ) (k a : ℕ) → a / 32 < k → ClearFrom m k → ClearFrom (withBits m (callers table (a ∷ []))) k
+waited-clear table m k a low clear =
+    ⊎-elim
+    (λ (e : mayCall table a ≡ true). rw (one-waits table m a e) (clear-bit m k a low clear))
+    (λ (e : mayCall table a ≡ false). rw (none-waits table m a e) clear)
+    (bool-cases (mayCall table a))
 
 -- the body alone is taken at once
 root-taken : (b : ℕ) → b < 256 → Topped (withBit (replicate 8 0) b) (replicate 8 0) (suc b)
@@ -174,32 +174,23 @@ module _ (table : List ℕ) (header : Header) (f : Fitting table header) (p : �
       let s : suc n ≡ n + 1 = omega arith in
       rw e (walked-taken n (omega arith) before low (rw s at w) m size marked gone same)
 
-  topped-clear : (next : ℕ) (before m : List ℕ) → Topped before m next → 0 < next → ClearFrom m ((next - 1) / 32 + 1)
-  topped-clear next before m (empty e g) pos = absurd (omega arith)
-  topped-clear next before m (taken n low marked over gone same size clear) pos =
+  topped-clear : (next : ℕ) (earlier m : List ℕ) → Topped earlier m next → 0 < next → ClearFrom m ((next - 1) / 32 + 1)
+  topped-clear next earlier m (empty e g) pos = absurd (omega arith)
+  topped-clear next earlier m (taken n low marked over gone same size clear) pos =
       let e : suc n - 1 ≡ n = omega arith in rw e clear
 
-  module _ (next low : ℕ) (m m′ : List ℕ) (g : Going table p next m low) (pos : 0 < next)
-      (marked : m′ ≡ leaves table (next - 1) m) where
+  module _ (next low : ℕ) (m : List ℕ) (g : Going table p next m low) (pos : 0 < next) where
     -- the next to be taken lies in no higher word
-    pub going-clear : ClearFrom m′ ((next - 1) / 32 + 1)
-    going-clear =
-        rw marked
-        (clear-bits m (waiting table (next - 1)) ((next - 1) / 32 + 1)
-        (λ a h. omega (
-          arith,
-          inner-below table header f (next - 1) a (omega (arith, g .high))
-              (callers-in table a (innerStatements (statementAt table (next - 1))) h),
-        ))
-        (topped-clear next (g .before) m (g .topped) pos))
+    pub going-clear : ClearFrom m ((next - 1) / 32 + 1)
+    going-clear = topped-clear next (g .before) m (g .topped) pos
 
-    pub going-next : (low′ next′ : ℕ) (after : List ℕ) → low′ ≡ answers table p (next - 1) low → Topped m′ after next′
+    pub going-next : (low′ next′ : ℕ) (after : List ℕ) → low′ ≡ answers table p (next - 1) low
+        → Topped (leaves table (next - 1) m) after next′
         → (Going table p next′ after low′) × (next′ ≤ next - 1)
     going-next low′ next′ after answer t =
         let w = visited next low (g .before) m (g .topped) (g .high) pos (g .walked) in
         rw answer
-        (going (next - 1) (leaves table (next - 1) m) (answers table p (next - 1) low) (omega (arith, g .high)) w after next′
-        (rw marked at t))
+        (going (next - 1) (leaves table (next - 1) m) (answers table p (next - 1) low) (omega (arith, g .high)) w after next′ t)
 
 emptied : (before m : List ℕ) (next : ℕ) → next ≡ 0 → Topped before m next → m ≡ replicate 8 0
 emptied before m next e (empty was is) = is

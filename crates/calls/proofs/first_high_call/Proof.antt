@@ -43,40 +43,34 @@ loop-holds c =
 sub-n : tie.Need-sub-n Inv-loop μ-loop
 sub-n c = omega arith
 
-visit-requires : tie.Need-visit-requires Inv-loop μ-loop
-visit-requires c κs =
-    let given = start (c .before) .pre in
-    let going = c .before .before .loop .inv in
-    (given .0, omega (arith, going .high, given .0 .sized .nodes-read), topped-length (going .topped))
+lowest-call-requires : tie.Need-lowest-call-requires Inv-loop μ-loop
+lowest-call-requires c κs =
+    let given = start c .pre in
+    (given .0, omega (arith, c .before .loop .inv .high, given .0 .sized .nodes-read))
 
-add-take-top : tie.Need-add-take-top Inv-loop μ-loop
-add-take-top c = omega arith
-
-take-top-requires : tie.Need-take-top-requires Inv-loop μ-loop
-take-top-requires c κs =
-    let head = c .before .before .before .before .before in
+descend-requires : tie.Need-descend-requires Inv-loop μ-loop
+descend-requires c κs =
+    let head = c .before .before in
     let given = start head .pre in
-    let going = head .before .loop .inv in
-    let marked = c .before .before .before .visit .ensures .1 in (
-      omega (arith, topped-length (going .topped)),
-      omega (arith, going .high, given .0 .sized .nodes-high),
-      λ i above below.
-          going-clear _ _ (given .0) _ (rooted (start head)) _ _ _ _ going (omega arith) marked i (omega arith) below,
+    let going = head .before .loop .inv in (
+      given .0,
+      omega (arith, going .high, given .0 .sized .nodes-read),
+      topped-length (going .topped),
+      going-clear _ _ (given .0) _ (rooted (start head)) _ _ _ going (omega arith),
     )
 
 -- one turn
-abbrev turn : tie.After-slice-known3 Inv-loop μ-loop → tie.In-loop Inv-loop μ-loop
-turn c = c .before .before .before .before .before .before .before .before
+abbrev turn : tie.After-slice-known2 Inv-loop μ-loop → tie.In-loop Inv-loop μ-loop
+turn c = c .before .before .before .before .before
 
-step : (c : tie.After-slice-known3 Inv-loop μ-loop)
-    → Going (start (turn c) .args .table .now) (start (turn c) .args .p) (c .before .before .take-top .result)
-    (c .before .before .take-top .last .0) (c .before .before .before .before .before .before .visit .result)
-    × (c .before .before .take-top .result ≤ turn c .before .loop .next - 1)
+step : (c : tie.After-slice-known2 Inv-loop μ-loop)
+    → Going (start (turn c) .args .table .now) (start (turn c) .args .p) (c .before .before .descend .result)
+    (c .before .before .descend .last .1 .1 .0) (c .before .before .before .before .lowest-call .result)
+    × (c .before .before .descend .result ≤ turn c .before .loop .next - 1)
 step c =
     let given = start (turn c) .pre in
-    let visit = c .before .before .before .before .before .before .visit in
-    going-next _ _ (given .0) _ (rooted (start (turn c))) _ _ _ _ (turn c .before .loop .inv) (omega arith)
-    (visit .ensures .1) _ _ _ (visit .ensures .0) (c .before .before .take-top .ensures)
+    going-next _ _ (given .0) _ (rooted (start (turn c))) _ _ _ (turn c .before .loop .inv) (omega arith) _ _ _
+    (c .before .before .before .before .lowest-call .ensures) (c .before .before .descend .ensures)
 
 loop-less : tie.Need-loop-less Inv-loop μ-loop
 loop-less c = omega (arith, step c .1)
@@ -101,9 +95,8 @@ first-high-call-spec =
     add-next
     loop-holds
     sub-n
-    visit-requires
-    add-take-top
-    take-top-requires
+    lowest-call-requires
+    descend-requires
     loop-less
     loop-again
     same-length
