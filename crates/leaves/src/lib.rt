@@ -64,7 +64,7 @@ fn both(s: bool, t: bool) -> bool
     false
 }
 
-// Whether a node with parts x and y is left locally, or one of them is.
+// Whether a node is left locally: by itself, which `here` says, or since its part x or y is.
 fn left_by(planes: &[u32], here: bool, x: u32, y: u32) -> bool
     requires { ⌜ length (now planes) ≡ allPlanes ⌝ }
     ensures { λ r. ⌜ r ≡ (here || eitherBit (leftPlane (now (planes .entry))) x y) ⌝ }

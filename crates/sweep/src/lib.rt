@@ -50,7 +50,7 @@ pub struct Blocked {
     pub ordered: bool,
 }
 
-// Of all nodes: the least refusal of 7, 8, 9 and 11, and that of 13 to 16.
+// Of all nodes: the least refusal of 7, 8, 9 and 11, and that of 13 to 16, as far as that does not look at leaves.
 pub struct Found {
     pub best: usize,
     pub rule: usize,

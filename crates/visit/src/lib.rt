@@ -22,5 +22,5 @@ pub const LEAVES: usize = 2 * PLANE;
 
 pub const PLANES: usize = LEAVES + PLANE;
 
-// The answer of a visit that could not be made; any other is the least refusal by the node's rule.
+// The answer of a visit that could not be made; any other is the refusal by the node's rule, as far as that does not look at leaves.
 pub const STUCK: usize = 0;

@@ -9,7 +9,7 @@ use crate::LEAVES;
 use crate::PLANES;
 use table::marks::mark;
 
-// Where the fields of node n are used, it is a leave.
+// Notes leave n, where its fields passed.
 pub fn note_leave(used: bool, planes: &mut [u32], n: usize)
     requires { ⌜ (n < 256) × (length (now planes) ≡ allPlanes) ⌝ }
     ensures { λ _. ⌜ Kept used (now (planes .entry)) (now (planes .exit)) ⌝ }
