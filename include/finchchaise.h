@@ -12,12 +12,12 @@
  * 32-bit words.
  *
  * In these comments a process is the rules paper's bank, a team its site, a step its turn, a
- * collective its meeting and gathered words its roster. docs/FORMAT.md describes every word.
+ * collective its meeting and a gathered area its roster. docs/FORMAT.md describes every word.
  *
  * Sizes in words. V is the number of variables that the table's header names:
  *
  *   start     (V + FC_DOORS) a process: its V variables, then its doors
- *   state     FC_PROCESS_WORDS a process: variables, gathered words, doors, latches, the depth of its
+ *   state     FC_PROCESS_WORDS a process: variables, gathered areas, doors, latches, the depth of its
  *             stack, stack places
  *   roll      FC_ROLL_WORDS a process: status (0 running, 1 waiting, 2 ended), node, value, source
  *   scratch   FC_SCRATCH_WORDS or more
@@ -39,10 +39,15 @@ enum {
     FC_SCRATCH_WORDS = 24
 };
 
-/* The parts of a process's words, in their order, and where each begins. Variables stand at 0. */
+/*
+ * The parts of a process's words, in their order, and where each begins. Variables stand at 0. The
+ * gathered areas stand together: area r begins at FC_GATHERED_AT + FC_AREA_SLOTS * r.
+ */
 enum {
     FC_VARIABLES = 32,
-    FC_GATHERED = 16,
+    FC_GATHERED_AREAS = 4,
+    FC_AREA_SLOTS = 16,
+    FC_GATHERED = FC_GATHERED_AREAS * FC_AREA_SLOTS,
     FC_DOORS = 12,
     FC_LATCHES = 12,
     FC_STACK = 256,

@@ -18,7 +18,7 @@ use Rattle.rules.proofs.StatusLaws.{one-node-waits}
 use Rattle.table.specs.declared.Header.{Header}
 use Rattle.process.specs.Given.{Stacked, isCollective, Topped, Turn}
 use Rattle.meeting.specs.Meeting.{Meeting}
-use Rattle.meeting.proofs.CollectiveLaws.{broadcast-fits}
+use Rattle.meeting.proofs.CollectiveLaws.{broadcast-fits, exchange-fits}
 use Rattle.questions.proofs.FittingLaws.{fits-stacked, run-stacked, run-statement, run-topped}
 use Rattle.machine.specs.Outcomes.{Ready}
 
@@ -75,4 +75,5 @@ module _ {table : List ℕ} {header : Header} {state roll : List ℕ} {count p :
           few = r .team .few;
           meets = h;
           stored = λ k. broadcast-fits (ready-topped e) k .0;
+          filled = λ k. exchange-fits (ready-topped e) k .1;
         }

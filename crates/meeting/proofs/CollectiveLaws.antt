@@ -10,9 +10,9 @@ use lib.Dec.{eqb}
 use borrow.Author.Tests.{eqb-true}
 use Rattle.rules.specs.declared.Node.{Node}
 use Rattle.rules.specs.Process.{variablePlaces, top}
-use Rattle.rules.specs.Table.{statementOf, collective, barrier, broadcast, exchange}
+use Rattle.rules.specs.Table.{statementOf, collective, barrier, broadcast, exchange, gatheredAreas}
 use Rattle.rules.proofs.ChoiceLaws.{bool-cases}
-use Rattle.rules.proofs.KindLaws.{barrier-of, broadcast-of, exchange-of, broadcast-fields, exchange-field}
+use Rattle.rules.proofs.KindLaws.{barrier-of, broadcast-of, exchange-of, broadcast-fields, exchange-fields}
 use Rattle.rules.proofs.StackLaws.{StoresLow}
 use Rattle.table.specs.declared.Header.{Header}
 use Rattle.process.specs.Given.{Part, isCollective, Topped}
@@ -29,7 +29,7 @@ module _ (m : Node) where
   unfolding collectiveOf
   is-broadcast e = rw e
 
-  pub is-exchange : m .kind ≡ 25 → collectiveOf m ≡ exchange (m .a)
+  pub is-exchange : m .kind ≡ 25 → collectiveOf m ≡ exchange (m .a) (m .b)
   unfolding collectiveOf
   is-exchange e = rw e
 
@@ -54,27 +54,20 @@ module _ {table : List ℕ} {header : Header} {words : List ℕ} {count : ℕ} {
       let f = broadcast-fields table (top-formed t) (top words) m (t .here) e in
       (omega (arith, f .0, top-formed t .variables-high), top-part t (f .1), top-part t (f .2))
 
-  pub exchange-fits : m .kind ≡ 25 → Part table (m .a)
-  exchange-fits e = top-part t (exchange-field table (top-formed t) (top words) m (t .here) e)
+  pub exchange-fits : m .kind ≡ 25 → Part table (m .a) × (m .b < gatheredAreas)
+  exchange-fits e =
+      let f = exchange-fields table (top-formed t) (top words) m (t .here) e in
+      (top-part t (f .0), f .1)
 
 -- a collective stores below the stack
-pub stores-low : (m : Node) → (m .kind ≡ 24 → m .a < variablePlaces) → StoresLow (collectiveOf m)
+pub stores-low : (m : Node) → (m .kind ≡ 24 → m .a < variablePlaces) → (m .kind ≡ 25 → m .b < gatheredAreas) → StoresLow (collectiveOf m)
 unfolding collectiveOf
-stores-low m h a b c q =
+stores-low m stored filled =
     ⊎-elim
-    (λ (e : eqb (m .kind) 24 ≡ true).
-    let same : broadcast (m .a) (m .b) (m .c) ≡ broadcast a b c = rw e at q in
-    let first : m .a ≡ a = cc in
-    omega (arith, h (eqb-true (m .kind) 24 e)))
+    (λ (e : eqb (m .kind) 24 ≡ true). rw e (omega (arith, stored (eqb-true (m .kind) 24 e))))
     (λ (e : eqb (m .kind) 24 ≡ false).
     ⊎-elim
-    (λ (f : eqb (m .kind) 25 ≡ true).
-    let other : exchange (m .a) ≡ broadcast a b c = rw (e, f) at q in
-    let z : _≡_ {A = ℕ} 0 1 = cc in
-    absurd (omega arith))
-    (λ (f : eqb (m .kind) 25 ≡ false).
-    let other : barrier ≡ broadcast a b c = rw (e, f) at q in
-    let z : _≡_ {A = ℕ} 0 1 = cc in
-    absurd (omega arith))
+    (λ (f : eqb (m .kind) 25 ≡ true). rw (e, f) (filled (eqb-true (m .kind) 25 f)))
+    (λ (f : eqb (m .kind) 25 ≡ false). rw (e, f) tt)
     (bool-cases (eqb (m .kind) 25)))
     (bool-cases (eqb (m .kind) 24))

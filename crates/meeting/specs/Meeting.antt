@@ -11,12 +11,12 @@ use Rattle.rules.specs.declared.Status.{Status}
 use Rattle.rules.specs.declared.Status.the-variants.{Running, Waiting, Ended}
 use Rattle.rules.specs.Arrivals.{arrivalSize, running, waiting, statusAt, arrivalNode, arrivalValue, arrivalSource}
 use Rattle.rules.specs.Process.{variablePlaces, mostProcesses}
-use Rattle.rules.specs.Table.{Collective, barrier, broadcast, exchange}
+use Rattle.rules.specs.Table.{Collective, barrier, broadcast, exchange, gatheredAreas}
 use Rattle.process.specs.Given.{isCollective}
 
 -- kinds 23 to 25
 unfoldable pub collectiveOf : Node → Collective
-collectiveOf m = cond (eqb (m .kind) 24) (broadcast (m .a) (m .b) (m .c)) (cond (eqb (m .kind) 25) (exchange (m .a)) barrier)
+collectiveOf m = cond (eqb (m .kind) 24) (broadcast (m .a) (m .b) (m .c)) (cond (eqb (m .kind) 25) (exchange (m .a) (m .b)) barrier)
 
 -- the status that a word stands for; question 23 refuses a word above 2 before any is read
 abbrev pub statusOf : ℕ → Status
@@ -38,3 +38,4 @@ pub record Meeting (roll : List ℕ) (count : ℕ) (node : Node) : Type 0 where
   pub few : count ≤ mostProcesses
   pub meets : isCollective (node .kind) ≡ true
   pub stored : node .kind ≡ 24 → node .a < variablePlaces
+  pub filled : node .kind ≡ 25 → node .b < gatheredAreas

@@ -8,6 +8,7 @@ ghost use lib.ListN.{length};
 ghost use Rattle.rules.specs.Arrivals.{arrivalSize, waiting, statusAt, runningRecord, endedRecord, withArrival};
 ghost use Rattle.rules.specs.Collective.{arrivalOf, gatheredFrom, sentBy, received, completedState, releasedRoll};
 ghost use Rattle.rules.specs.Process.{processWords, mostProcesses, processAt, environment, top, popped};
+ghost use Rattle.rules.specs.Table.{gatheredAreas};
 ghost use Rattle.rules.specs.declared.Status.the-variants.{Running};
 ghost use Rattle.process.specs.Given.{Stacked, isCollective, Topped};
 ghost use Rattle.meeting.specs.Meeting.{Meeting, collectiveOf};
@@ -21,8 +22,8 @@ use process::process::top;
 use rules::Arrival;
 use rules::Node;
 use rules::layout::DEPTH_AT;
-use rules::layout::GATHERED_AT;
 use rules::layout::PROCESS_WORDS;
+use rules::layout::slot_at;
 use table::Header;
 
 // "value and source are worked out on arrival"; "a field the kind lacks is 0"
@@ -53,14 +54,14 @@ pub fn arrival_of(
     arrival.arrive(n, value, source)
 }
 
-// "An exchange puts bank i's value into slot i of every roster."
-fn gather(words: &mut [u32], roll: &[u32], count: usize)
-    requires { ⌜ (length (now words) ≡ processWords) × (length (now roll) ≡ arrivalSize * count) × (count ≤ mostProcesses) ⌝ }
-    ensures { λ _. ⌜ now (words .exit) ≡ gatheredFrom (now (roll .entry)) count (now (words .entry)) ⌝ }
+// "An exchange puts bank i's value into slot i of every roster": of the one that it names, at every bank.
+fn gather(words: &mut [u32], roll: &[u32], count: usize, area: usize)
+    requires { ⌜ (length (now words) ≡ processWords) × (length (now roll) ≡ arrivalSize * count) × (count ≤ mostProcesses) × (area < gatheredAreas) ⌝ }
+    ensures { λ _. ⌜ now (words .exit) ≡ gatheredFrom (now (roll .entry)) area count (now (words .entry)) ⌝ }
 {
     let mut i = 0;
     while i < count {
-        let at = GATHERED_AT + i;
+        let at = slot_at(area, i);
         words[at] = value_of(roll, i);
         i += 1;
     }
@@ -84,7 +85,7 @@ fn receive(words: &mut [u32], roll: &[u32], count: usize, node: Node, p: usize)
 {
     let kind = node.kind;
     if kind == 25 {
-        gather(words, roll, count);
+        gather(words, roll, count, node.b as usize);
         return;
     }
     if kind == 24 {

@@ -4,14 +4,14 @@ ghost use mathlib.Core.Path.{_≡_};
 ghost use Prim.Native.Nat.{ℕ, _+_, _*_, _/_, _%_, _<_, _≤_};
 ghost use lib.Dec.{ltb};
 ghost use lib.ListN.{length, getD};
-ghost use Rattle.rules.specs.Evaluation.{applied, valueOf, value, doors};
+ghost use Rattle.rules.specs.Evaluation.{applied, valueOf, value, doors, gatheredSlot};
 ghost use Rattle.rules.specs.Process.{mostProcesses, gatheredAt, doorsAt, processWords, environment};
-ghost use Rattle.rules.specs.Table.{Operator, expressionOf};
+ghost use Rattle.rules.specs.Table.{Operator, expressionOf, gatheredAreas};
 ghost use Rattle.process.specs.Given.{Given, Part, operatorOf};
 use rules::Node;
 use rules::layout::DOOR_PLACES;
 use rules::layout::DOORS_AT;
-use rules::layout::GATHERED_AT;
+use rules::layout::slot_at;
 use std::num::wrapping_add_u32;
 use table::Header;
 use table::words::node_at;
@@ -95,13 +95,13 @@ fn door(words: &[u32], x: u32) -> u32
     }
 }
 
-// "roster slot A; from the number of banks on the value is 0"
-fn slot(words: &[u32], count: u32, x: u32) -> u32
-    requires { ⌜ (length (now words) ≡ processWords) × (count ≤ mostProcesses) ⌝ }
-    ensures { λ r. ⌜ r ≡ cond (ltb x count) (getD (now (words .entry)) (gatheredAt + x) 0) 0 ⌝ }
+// "roster slot A; from the number of banks on the value is 0", of the roster that B names
+fn slot(words: &[u32], count: u32, x: u32, area: usize) -> u32
+    requires { ⌜ (length (now words) ≡ processWords) × (count ≤ mostProcesses) × (area < gatheredAreas) ⌝ }
+    ensures { λ r. ⌜ r ≡ cond (ltb x count) (getD (now (words .entry)) (gatheredAt + gatheredSlot area x) 0) 0 ⌝ }
 {
     if x < count {
-        let at = GATHERED_AT + x as usize;
+        let at = slot_at(area, x as usize);
         words[at]
     } else {
         0
@@ -124,7 +124,7 @@ pub fn evaluate(table: &[u8], header: Header, words: &[u32], own: u32, count: u3
         return door(words, x);
     }
     if kind == 5 {
-        return slot(words, count, x);
+        return slot(words, count, x, node.b as usize);
     }
     let y = value_at(table, header, words, own, count, node.b as usize);
     apply(kind, x, y)

@@ -139,14 +139,14 @@ more-than : {k n : ℕ} → n ≤ k → (k ≡ n → ⊥) → n + 1 ≤ k
 more-than at-least other = omega arith
 
 pub operation-kind : {k : ℕ} → (k ≡ 0 → ⊥) → (k ≡ 1 → ⊥) → ((k ≡ 2) ⊎ (k ≡ 23) → ⊥) → ((k ≡ 3) ⊎ (k ≡ 16) → ⊥)
-    → ((k ≡ 4) ⊎ (k ≡ 25) → ⊥) → (k ≡ 5 → ⊥) → k < 13
+    → (k ≡ 4 → ⊥) → (k ≡ 5 → ⊥) → k < 13
     → (k ≡ 6) ⊎ ((k ≡ 7) ⊎ ((k ≡ 8) ⊎ ((k ≡ 9) ⊎ ((k ≡ 10) ⊎ ((k ≡ 11) ⊎ (k ≡ 12))))))
 operation-kind {k} no0 no1 no2 no3 no4 no5 few =
     let least : 1 ≤ k = more-than (omega arith) no0 in
     let over1 = more-than least no1 in
     let over2 = more-than over1 (λ e. no2 (inl e)) in
     let over3 = more-than over2 (λ e. no3 (inl e)) in
-    let over4 = more-than over3 (λ e. no4 (inl e)) in
+    let over4 = more-than over3 no4 in
     let over5 = more-than over4 no5 in
     elim (ℕ-discrete k 6) [
       | yes e ↦ inl e
@@ -170,17 +170,17 @@ operation-kind {k} no0 no1 no2 no3 no4 no5 few =
       ])
     ]
 
-pub unnamed-kind : {k : ℕ} → ((k ≡ 2) ⊎ (k ≡ 23) → ⊥) → ((k ≡ 3) ⊎ (k ≡ 16) → ⊥) → ((k ≡ 4) ⊎ (k ≡ 25) → ⊥) → (k ≡ 17 → ⊥)
-    → (k ≡ 18 → ⊥) → (k ≡ 19 → ⊥) → (k ≡ 20 → ⊥) → (k ≡ 21 → ⊥) → (k ≡ 22 → ⊥) → (k ≡ 24 → ⊥) → (k ≡ 26 → ⊥) → 13 ≤ k
+pub unnamed-kind : {k : ℕ} → ((k ≡ 2) ⊎ (k ≡ 23) → ⊥) → ((k ≡ 3) ⊎ (k ≡ 16) → ⊥) → (k ≡ 17 → ⊥) → (k ≡ 18 → ⊥)
+    → (k ≡ 19 → ⊥) → (k ≡ 20 → ⊥) → (k ≡ 21 → ⊥) → (k ≡ 22 → ⊥) → (k ≡ 24 → ⊥) → (k ≡ 25 → ⊥) → (k ≡ 26 → ⊥) → 13 ≤ k
     → knownKind k ≡ false
-unnamed-kind {k} no2 no3 no4 no17 no18 no19 no20 no21 no22 no24 no26 many =
+unnamed-kind {k} no2 no3 no17 no18 no19 no20 no21 no22 no24 no25 no26 many =
     elim (decLt k 16) [
       | yes low ↦ simp (lt-leb k 12 (omega arith), lt-leb 16 k low)
       | no high ↦
           let over16 = more-than (omega arith) (λ (e : k ≡ 16). no3 (inr e)) in
           let over19 = more-than (more-than (more-than over16 no17) no18) no19 in
           let over22 = more-than (more-than (more-than over19 no20) no21) no22 in
-          let over25 = more-than (more-than (more-than over22 (λ e. no2 (inr e))) no24) (λ e. no4 (inr e)) in
+          let over25 = more-than (more-than (more-than over22 (λ e. no2 (inr e))) no24) no25 in
           let over26 = more-than over25 no26 in
           simp (lt-leb k 12 (omega arith), lt-leb k 26 (omega arith), and-false)
     ]

@@ -53,14 +53,14 @@ pub fn quick(table: &[u8], planes: &mut [u32], visit: Visit, packed: u32) -> usi
             let used = fields(table, planes, visit, node, 0);
             settled(used, table, planes, visit, node, NEVER, UNRULED, node.a)
         }
-        4 | 25 => {
+        4 => {
             let node = unpacked(packed);
             let used = fields(table, planes, visit, node, 200);
             settled(used, table, planes, visit, node, ALWAYS, UNRULED, node.a)
         }
         5 => {
             let node = unpacked(packed);
-            let used = fields(table, planes, visit, node, 200);
+            let used = fields(table, planes, visit, node, 260);
             settled(used, table, planes, visit, node, OF_A, UNRULED, node.a)
         }
         6 | 7 | 8 | 9 | 10 | 11 | 12 => {
@@ -102,6 +102,11 @@ pub fn quick(table: &[u8], planes: &mut [u32], visit: Visit, packed: u32) -> usi
             let node = unpacked(packed);
             let used = fields(table, planes, visit, node, 122);
             settled(used, table, planes, visit, node, ALWAYS, 14, node.c)
+        }
+        25 => {
+            let node = unpacked(packed);
+            let used = fields(table, planes, visit, node, 260);
+            settled(used, table, planes, visit, node, ALWAYS, UNRULED, node.a)
         }
         26 => {
             let node = unpacked(packed);

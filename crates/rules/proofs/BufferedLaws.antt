@@ -13,6 +13,7 @@ use Rattle.rules.specs.Below.{below}
 use Rattle.rules.specs.Buffered.{buffer, bufferedState, bufferedCompleted, bufferedArrived, bufferedRunning, bufferedBy, bufferedStep}
 use Rattle.rules.specs.Buffered.{SameAsBuffered}
 use Rattle.rules.specs.Collective.{gatheredFrom, received, completedState}
+use Rattle.rules.specs.Evaluation.{gatheredSlot}
 use Rattle.rules.specs.Process.{gatheredAt, processAt, eachProcess, top, popped}
 use Rattle.rules.specs.Step.{Outcome, processesIn, stepVerdict, completed, arrivedAt, stepRunning, stepTaken, steppedBy, stepped}
 use Rattle.rules.specs.Table.{Collective, barrier, broadcast, exchange, statementAt}
@@ -28,23 +29,26 @@ sets-end words i (w ∷ values) v =
     ∙ ap (λ j. set (sets (set words i w) (suc i) values) j v) (omega arith)
 
 -- the buffer's words are those straight from the roll
-buffer-gathered : (roll : List ℕ) (count : ℕ) (words : List ℕ)
-    → sets words gatheredAt (buffer roll count) ≡ gatheredFrom roll count words
+buffer-gathered : (roll : List ℕ) (r count : ℕ) (words : List ℕ)
+    → sets words (gatheredAt + gatheredSlot r 0) (buffer roll count) ≡ gatheredFrom roll r count words
 unfolding buffer below gatheredFrom
-buffer-gathered roll zero words = refl
-buffer-gathered roll (suc n) words =
-    sets-end words gatheredAt (buffer roll n) (arrivalValue roll n)
-    ∙ ap (λ j. set (sets words gatheredAt (buffer roll n)) (gatheredAt + j) (arrivalValue roll n)) (below-length _ n)
-    ∙ ap (λ gathered. set gathered (gatheredAt + n) (arrivalValue roll n)) (buffer-gathered roll n words)
+buffer-gathered roll r zero words = refl
+buffer-gathered roll r (suc n) words =
+    let at = gatheredAt + gatheredSlot r 0 in
+    let e : at + n ≡ gatheredAt + gatheredSlot r n = omega arith in
+    sets-end words at (buffer roll n) (arrivalValue roll n)
+    ∙ ap (λ j. set (sets words at (buffer roll n)) (at + j) (arrivalValue roll n)) (below-length _ n)
+    ∙ ap (λ j. set (sets words at (buffer roll n)) j (arrivalValue roll n)) e
+    ∙ ap (λ gathered. set gathered (gatheredAt + gatheredSlot r n) (arrivalValue roll n)) (buffer-gathered roll r n words)
 
 buffered-state : (roll : List ℕ) (count : ℕ) (k : Collective) (state : List ℕ)
     → bufferedState roll count k state ≡ completedState roll count k state
 unfolding bufferedState completedState received
 buffered-state roll count barrier state = refl
 buffered-state roll count (broadcast a b c) state = refl
-buffered-state roll count (exchange a) state =
+buffered-state roll count (exchange a r) state =
     ap (λ (change : ℕ → List ℕ → List ℕ). eachProcess change count state)
-    (fun-ext (λ p. fun-ext (λ words. ap popped (buffer-gathered roll count words))))
+    (fun-ext (λ p. fun-ext (λ words. ap popped (buffer-gathered roll r count words))))
 
 buffered-arrived : (state roll : List ℕ) (count node : ℕ) (k : Collective)
     → bufferedArrived state roll count node k ≡ arrivedAt state roll count node k

@@ -1,16 +1,18 @@
--- Laws of the state after a collective: every process's words, and what a broadcast leaves in its variable.
+-- Laws of the state after a collective: every process's words, what a broadcast leaves in its variable, and what an exchange leaves
+-- alone.
 use mathlib.Core.List.{List}
 use mathlib.Core.Path.{_≡_, sym, _∙_, ap}
-use Prim.Native.Nat.{ℕ, _*_, _<_}
+use Prim.Native.Nat.{ℕ, _+_, _*_, _<_}
 use native.Mathlib.Omega.{arith}
 use lib.ListN.{length, getD}
 use lib.Seq.{getD-set-same}
 use Rattle.rules.specs.Arrivals.{arrivalSource}
-use Rattle.rules.specs.Collective.{sentBy, received, completedState, EqualSources}
-use Rattle.rules.specs.Process.{processWords, variablePlaces, processAt, popped}
-use Rattle.rules.specs.Table.{Collective, broadcast}
+use Rattle.rules.specs.Collective.{sentBy, received, completedState, EqualSources, OtherAreasKept}
+use Rattle.rules.specs.Evaluation.{gatheredSlot}
+use Rattle.rules.specs.Process.{processWords, variablePlaces, gatheredAt, processAt, popped}
+use Rattle.rules.specs.Table.{Collective, broadcast, exchange}
 use Rattle.rules.proofs.ProcessLaws.{KeepsSize, process-length, each-process-length, each-process-changed}
-use Rattle.rules.proofs.StackLaws.{popped-length, popped-below, received-length}
+use Rattle.rules.proofs.StackLaws.{popped-length, popped-below, received-length, gathered-other}
 
 -- a process's words after it
 abbrev pub taken : List ℕ → ℕ → Collective → ℕ → List ℕ → List ℕ
@@ -44,3 +46,11 @@ equal-sources roll state count a b c p q sized low l m e =
     broadcast-at roll state count a b c p sized low l
     ∙ ap (sentBy roll count) e
     ∙ sym (broadcast-at roll state count a b c q sized low m)
+
+pub other-areas-kept : OtherAreasKept
+unfolding received
+other-areas-kept roll state count a r s i p sized few l area apart low =
+    let at = gatheredAt + gatheredSlot s i in
+    ap (λ words. getD words at 0) (completed-at roll count (exchange a r) state sized p l)
+    ∙ popped-below (received roll count (exchange a r) p (processAt state p)) at (omega arith)
+    ∙ gathered-other roll r count (processAt state p) at (λ k b. omega arith)

@@ -9,7 +9,7 @@ use lib.Dec.{ltb}
 use lib.ListN.{getD}
 use borrow.Author.Tests.{ltb-true}
 use Rattle.rules.specs.declared.Node.{Node}
-use Rattle.rules.specs.Table.{firstStatement, variables, procedures, nodeAt}
+use Rattle.rules.specs.Table.{firstStatement, gatheredAreas, variables, procedures, nodeAt}
 use Rattle.rules.specs.Table.{expressionOf, statementOf, expressionAt, statementAt}
 use Rattle.rules.specs.Table.{Operator, sum, difference, product, quotient, less, equal, both}
 use Rattle.rules.specs.Table.{Expression, variable, door, slot, operation}
@@ -32,7 +32,7 @@ module _ (m : Node) where
   unfolding expressionOf
   door-of e = rw e
 
-  pub slot-of : m .kind ≡ 5 → expressionOf m ≡ slot (m .a)
+  pub slot-of : m .kind ≡ 5 → expressionOf m ≡ slot (m .a) (m .b)
   unfolding expressionOf
   slot-of e = rw e
 
@@ -83,7 +83,7 @@ module _ (m : Node) where
   unfolding statementOf
   broadcast-of e = rw e
 
-  pub exchange-of : m .kind ≡ 25 → statementOf m ≡ collective (exchange (m .a))
+  pub exchange-of : m .kind ≡ 25 → statementOf m ≡ collective (exchange (m .a) (m .b))
   unfolding statementOf
   exchange-of e = rw e
 
@@ -101,7 +101,7 @@ module _ (P : Statement → Type 0) (m : Node)
     (latch-case : m .kind ≡ 22 → P (latch (m .a) (m .b)))
     (barrier-case : m .kind ≡ 23 → P (collective barrier))
     (broadcast-case : m .kind ≡ 24 → P (collective (broadcast (m .a) (m .b) (m .c))))
-    (exchange-case : m .kind ≡ 25 → P (collective (exchange (m .a))))
+    (exchange-case : m .kind ≡ 25 → P (collective (exchange (m .a) (m .b))))
     (leave-case : m .kind ≡ 26 → P leave)
     (other : P nothing) where
   by-place : (i : ℕ) → m .kind - firstStatement ≡ i → P (statementOf m)
@@ -147,9 +147,21 @@ module _ (table : List ℕ) (formed : Formed table) (n : ℕ) (m : Node) (here :
   unfolding expressionFits
   variable-field e = ltb-true (m .a) (variables table) (expression-fits (variable-of m e))
 
+  -- the fields of the two kinds that name an area
+  in-area : (expressionPart table n (m .a) && ltb (m .b) gatheredAreas) ≡ true
+      → (expressionPart table n (m .a) ≡ true) × (m .b < gatheredAreas)
+  in-area all =
+      let part = expressionPart table n (m .a) in
+      let low = ltb (m .b) gatheredAreas in
+      (both-left part low all, ltb-true (m .b) gatheredAreas (both-right part low all))
+
   operands : 6 ≤ m .kind → m .kind ≤ 12 → (expressionPart table n (m .a) && expressionPart table n (m .b)) ≡ true
   unfolding expressionFits
   operands h k = expression-fits (operation-of m h k)
+
+  pub slot-fields : m .kind ≡ 5 → (expressionPart table n (m .a) ≡ true) × (m .b < gatheredAreas)
+  unfolding expressionFits
+  slot-fields e = in-area (expression-fits (slot-of m e))
 
   pub first-part : 4 ≤ m .kind → m .kind ≤ 12 → expressionPart table n (m .a) ≡ true
   unfolding expressionFits
@@ -158,7 +170,7 @@ module _ (table : List ℕ) (formed : Formed table) (n : ℕ) (m : Node) (here :
         | yes l ↦
             elim (decLt (m .kind) 5) [
               | yes l′ ↦ expression-fits (door-of m (omega arith))
-              | no l′ ↦ expression-fits (slot-of m (omega arith))
+              | no l′ ↦ slot-fields (omega arith) .0
             ]
         | no l ↦ both-left (expressionPart table n (m .a)) (expressionPart table n (m .b)) (operands (omega arith) k)
       ]
@@ -231,6 +243,6 @@ module _ (table : List ℕ) (formed : Formed table) (n : ℕ) (m : Node) (here :
         both-right (low && value) source all,
       )
 
-  pub exchange-field : m .kind ≡ 25 → expressionPart table n (m .a) ≡ true
+  pub exchange-fields : m .kind ≡ 25 → (expressionPart table n (m .a) ≡ true) × (m .b < gatheredAreas)
   unfolding statementFits collectiveFits
-  exchange-field e = statement-fits (exchange-of m e)
+  exchange-fields e = in-area (statement-fits (exchange-of m e))

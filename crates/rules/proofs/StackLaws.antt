@@ -12,11 +12,11 @@ use lib.ListN.{length, getD, set, length-set}
 use lib.Seq.{getD-set-same, getD-set-other}
 use Rattle.rules.specs.Arrivals.{arrivalValue}
 use Rattle.rules.specs.Collective.{gatheredFrom, received}
-use Rattle.rules.specs.Evaluation.{Environment, value}
+use Rattle.rules.specs.Evaluation.{Environment, value, gatheredSlot}
 use Rattle.rules.specs.Process.{latchPlaces, mostProcesses, gatheredAt, latchesAt, depthAt, stackAt, stackPlaces, processWords}
 use Rattle.rules.specs.Process.{depth, top, popped, replaced, pushed, unwound, advanced}
 use Rattle.rules.specs.Table.{Statement, nothing, assign, sequence, branch, loop, call, latch, collective, leave}
-use Rattle.rules.specs.Table.{Collective, barrier, broadcast, exchange}
+use Rattle.rules.specs.Table.{Collective, barrier, broadcast, exchange, gatheredAreas}
 use Rattle.rules.specs.WellFormed.{nearestLoop}
 
 -- the stack entry at height i, the lowest at 0
@@ -57,18 +57,18 @@ unwound-length w (suc d) words =
     picked true e f = e
     picked false e f = f
 
-pub gathered-length : (roll : List ℕ) (count : ℕ) (words : List ℕ) → length (gatheredFrom roll count words) ≡ length words
+pub gathered-length : (roll : List ℕ) (r count : ℕ) (words : List ℕ) → length (gatheredFrom roll r count words) ≡ length words
 unfolding gatheredFrom
-gathered-length roll zero words = refl
-gathered-length roll (suc n) words =
-    length-set (gatheredFrom roll n words) (gatheredAt + n) (arrivalValue roll n) ∙ gathered-length roll n words
+gathered-length roll r zero words = refl
+gathered-length roll r (suc n) words =
+    length-set (gatheredFrom roll r n words) (gatheredAt + gatheredSlot r n) (arrivalValue roll n) ∙ gathered-length roll r n words
 
 pub received-length : (roll : List ℕ) (count : ℕ) (k : Collective) (p : ℕ) (words : List ℕ)
     → length (received roll count k p words) ≡ length words
 unfolding received
 received-length roll count barrier p words = refl
 received-length roll count (broadcast a b c) p words = simp length-set
-received-length roll count (exchange a) p words = gathered-length roll count words
+received-length roll count (exchange a r) p words = gathered-length roll r count words
 
 -- the words that a latch statement stores to
 pub latched-length : (words : List ℕ) (test : Bool) (a v : ℕ) → length (cond test (set words a v) words) ≡ length words
@@ -132,22 +132,6 @@ set-depth words a v h = getD-set-other words a depthAt v 0 (omega arith)
 
 pub set-entry : (words : List ℕ) (a v i : ℕ) → a < depthAt → entry (set words a v) i ≡ entry words i
 set-entry words a v i h = getD-set-other words a (stackAt + i) v 0 (omega arith)
-
-pub gathered-depth : (roll : List ℕ) (count : ℕ) (words : List ℕ) → count ≤ mostProcesses
-    → depth (gatheredFrom roll count words) ≡ depth words
-unfolding gatheredFrom
-gathered-depth roll zero words h = refl
-gathered-depth roll (suc n) words h =
-    set-depth (gatheredFrom roll n words) (gatheredAt + n) (arrivalValue roll n) (omega arith)
-    ∙ gathered-depth roll n words (omega arith)
-
-pub gathered-entry : (roll : List ℕ) (count : ℕ) (words : List ℕ) (i : ℕ) → count ≤ mostProcesses
-    → entry (gatheredFrom roll count words) i ≡ entry words i
-unfolding gatheredFrom
-gathered-entry roll zero words i h = refl
-gathered-entry roll (suc n) words i h =
-    set-entry (gatheredFrom roll n words) (gatheredAt + n) (arrivalValue roll n) i (omega arith)
-    ∙ gathered-entry roll n words i (omega arith)
 
 -- depth and entries after a move of the stack
 
@@ -220,12 +204,6 @@ pub stack-set : (words : List ℕ) (a v : ℕ) → a < depthAt → stack (set wo
 stack-set words a v h =
     stack-kept (set words a v) words (set-depth words a v h) (λ i l. set-entry words a v i h)
 
-pub stack-gathered : (roll : List ℕ) (count : ℕ) (words : List ℕ) → count ≤ mostProcesses
-    → stack (gatheredFrom roll count words) ≡ stack words
-stack-gathered roll count words h =
-    stack-kept (gatheredFrom roll count words) words (gathered-depth roll count words h)
-    (λ i l. gathered-entry roll count words i h)
-
 module _ (words : List ℕ) (sized : length words ≡ processWords) where
   pub stack-top : 0 < depth words → stack words ≡ top words ∷ stackOf words (depth words - 1)
   stack-top h =
@@ -276,23 +254,35 @@ stack-unwound w (suc d) words sized e =
 
 -- what a process takes away from a collective leaves its stack alone
 
--- a broadcast stores to a variable
+-- a broadcast stores to a variable, an exchange to one of the areas
 abbrev pub StoresLow : Collective → Type 0
-StoresLow k = (a b c : ℕ) → k ≡ broadcast a b c → a < depthAt
+StoresLow barrier = Unit {0}
+StoresLow (broadcast a b c) = a < depthAt
+StoresLow (exchange a r) = r < gatheredAreas
+
+-- an exchange leaves all but the slots that it fills as it was
+pub gathered-other : (roll : List ℕ) (r count : ℕ) (words : List ℕ) (j : ℕ)
+    → ((i : ℕ) → i < count → j ≢ gatheredAt + gatheredSlot r i) → getD (gatheredFrom roll r count words) j 0 ≡ getD words j 0
+unfolding gatheredFrom
+gathered-other roll r zero words j h = refl
+gathered-other roll r (suc n) words j h =
+    getD-set-other (gatheredFrom roll r n words) (gatheredAt + gatheredSlot r n) j (arrivalValue roll n) 0 (h n (omega arith))
+    ∙ gathered-other roll r n words j (λ i l. h i (omega arith))
 
 pub received-depth : (roll : List ℕ) (count : ℕ) (k : Collective) (p : ℕ) (words : List ℕ) → count ≤ mostProcesses → StoresLow k
     → depth (received roll count k p words) ≡ depth words
-unfolding received
+unfolding received depth
 received-depth roll count barrier p words h low = refl
-received-depth roll count (broadcast a b c) p words h low = set-depth words a _ (low a b c refl)
-received-depth roll count (exchange a) p words h low = gathered-depth roll count words h
+received-depth roll count (broadcast a b c) p words h low = set-depth words a _ low
+received-depth roll count (exchange a r) p words h low = gathered-other roll r count words depthAt (λ i l. omega arith)
 
 pub received-entry : (roll : List ℕ) (count : ℕ) (k : Collective) (p : ℕ) (words : List ℕ) (i : ℕ) → count ≤ mostProcesses → StoresLow k
     → entry (received roll count k p words) i ≡ entry words i
 unfolding received
 received-entry roll count barrier p words i h low = refl
-received-entry roll count (broadcast a b c) p words i h low = set-entry words a _ i (low a b c refl)
-received-entry roll count (exchange a) p words i h low = gathered-entry roll count words i h
+received-entry roll count (broadcast a b c) p words i h low = set-entry words a _ i low
+received-entry roll count (exchange a r) p words i h low =
+    gathered-other roll r count words (stackAt + i) (λ j l. omega arith)
 
 pub stack-received : (roll : List ℕ) (count : ℕ) (k : Collective) (p : ℕ) (words : List ℕ) → count ≤ mostProcesses → StoresLow k
     → stack (received roll count k p words) ≡ stack words
@@ -300,28 +290,21 @@ stack-received roll count k p words h low =
     stack-kept (received roll count k p words) words (received-depth roll count k p words h low)
     (λ i l. received-entry roll count k p words i h low)
 
--- the gathered words: the value of each process below the count, and the other words as they were
-
-pub gathered-other : (roll : List ℕ) (count : ℕ) (words : List ℕ) (j : ℕ)
-    → ((i : ℕ) → i < count → j ≢ gatheredAt + i) → getD (gatheredFrom roll count words) j 0 ≡ getD words j 0
+-- the slots that an exchange fills: the value of each process below the count
+pub gathered-at : (roll : List ℕ) (r count : ℕ) (words : List ℕ) (i : ℕ) → length words ≡ processWords → r < gatheredAreas
+    → count ≤ mostProcesses → i < count
+    → getD (gatheredFrom roll r count words) (gatheredAt + gatheredSlot r i) 0 ≡ arrivalValue roll i
 unfolding gatheredFrom
-gathered-other roll zero words j h = refl
-gathered-other roll (suc n) words j h =
-    getD-set-other (gatheredFrom roll n words) (gatheredAt + n) j (arrivalValue roll n) 0 (h n (omega arith))
-    ∙ gathered-other roll n words j (λ i l. h i (omega arith))
-
-pub gathered-at : (roll : List ℕ) (count : ℕ) (words : List ℕ) (i : ℕ) → length words ≡ processWords → count ≤ mostProcesses → i < count
-    → getD (gatheredFrom roll count words) (gatheredAt + i) 0 ≡ arrivalValue roll i
-unfolding gatheredFrom
-gathered-at roll zero words i sized h l = absurd (omega arith)
-gathered-at roll (suc n) words i sized h l =
+gathered-at roll r zero words i sized area h l = absurd (omega arith)
+gathered-at roll r (suc n) words i sized area h l =
+    let earlier = gatheredFrom roll r n words in
     elim (decLt i n) [
       | yes b ↦
-          getD-set-other (gatheredFrom roll n words) (gatheredAt + n) (gatheredAt + i) (arrivalValue roll n) 0 (omega arith)
-          ∙ gathered-at roll n words i sized (omega arith) b
+          getD-set-other earlier (gatheredAt + gatheredSlot r n) (gatheredAt + gatheredSlot r i) (arrivalValue roll n) 0 (omega arith)
+          ∙ gathered-at roll r n words i sized area (omega arith) b
       | no b ↦
           let e : i ≡ n = omega arith in
           rw e
-          (getD-set-same (gatheredFrom roll n words) (gatheredAt + n) (arrivalValue roll n) 0
-          (omega (arith, gathered-length roll n words)))
+          (getD-set-same earlier (gatheredAt + gatheredSlot r n) (arrivalValue roll n) 0
+          (omega (arith, gathered-length roll r n words)))
     ]

@@ -3,7 +3,7 @@
 use mathlib.Core.Bool.{cond}
 use mathlib.Core.List.{List}
 use mathlib.Core.Path.{_≡_}
-use Prim.Native.Nat.{ℕ}
+use Prim.Native.Nat.{ℕ, _+_}
 use lib.Dec.{eqb}
 use lib.Seq.{sets}
 use Rattle.rules.specs.declared.Event.the-variants.{Arrived, Completed}
@@ -12,6 +12,7 @@ use Rattle.rules.specs.declared.Verdict.the-variants.{Accepted, Refused 
 use Rattle.rules.specs.Arrivals.{running, statusAt, arrivalValue, withArrival, teamStatus, allAtOneNode}
 use Rattle.rules.specs.Below.{below}
 use Rattle.rules.specs.Collective.{arrivalOf, completedState, releasedRoll}
+use Rattle.rules.specs.Evaluation.{gatheredSlot}
 use Rattle.rules.specs.Process.{gatheredAt, processAt, eachProcess, environment, top, popped}
 use Rattle.rules.specs.Step.{Outcome, taken, processesIn, stepVerdict, stepRunning, stepTaken, steppedBy, stepped}
 use Rattle.rules.specs.Table.{Collective, barrier, broadcast, exchange, statementAt, onCollective}
@@ -24,9 +25,9 @@ buffer roll count = below (λ earlier p. arrivalValue roll p) count
 unfoldable pub bufferedState : List ℕ → ℕ → Collective → List ℕ → List ℕ
 bufferedState roll count barrier state = completedState roll count barrier state
 bufferedState roll count (broadcast a b c) state = completedState roll count (broadcast a b c) state
-bufferedState roll count (exchange a) state =
+bufferedState roll count (exchange a r) state =
     let values = buffer roll count in
-    eachProcess (λ p words. popped (sets words gatheredAt values)) count state
+    eachProcess (λ p words. popped (sets words (gatheredAt + gatheredSlot r 0) values)) count state
 
 -- as `completed`, with that state
 unfoldable pub bufferedCompleted : List ℕ → List ℕ → ℕ → ℕ → Collective → Outcome

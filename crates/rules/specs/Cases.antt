@@ -1,5 +1,5 @@
--- The cases that the paper marks to be proved of the rules, and a few of leaves, of absent senders, of turns shared and of scratch, one
--- table of theorems, each by computation from the table's words.
+-- The cases that the paper marks to be proved of the rules, and a few of leaves, of absent senders, of rosters, of turns shared and of
+-- scratch, one table of theorems, each by computation from the table's words.
 use mathlib.Core.List.{List, [], _∷_, _++_}
 use mathlib.Core.Path.{_≡_, refl}
 use Prim.Native.Nat.{ℕ, zero, suc, _+_, _-_, _*_, _/_, _%_, _^_}
@@ -202,6 +202,44 @@ source-above-count = refl
 source-absent-for-one : sent 1 2 ≡ 9 ∷ 0 ∷ []
 unfolding opened broadcast-table sent
 source-absent-for-one = refl
+
+-- rosters: an exchange of the own number into one, and variable 0 takes slot 1 of another
+rosters : ℕ → ℕ → List ℕ
+rosters filled read =
+    0x10420600 ∷ 0x80000000 ∷ 0x05800000
+    ∷ 0x10000000 ∷ (0xC8000000 + filled * 2 ^ 9) ∷ 1 ∷ (0x28080000 + read * 2 ^ 9) ∷ 0x88000600 ∷ 0x90040800 ∷ []
+
+-- "Kinds 5 and 25 name one in field B, 0 to 3; above 3 is number 9": at its node
+rosters-accepted : verdict (rosters 3 2) ≡ Accepted
+unfolding opened rosters
+rosters-accepted = refl
+
+exchange-above-3 : verdict (rosters 4 0) ≡ refused 9 1
+unfolding opened rosters
+exchange-above-3 = refl
+
+slot-above-3 : verdict (rosters 0 4) ≡ refused 9 3
+unfolding opened rosters
+slot-above-3 = refl
+
+-- variable 0 of the first of two processes after it, and slot 1 of each of its rosters
+gathered-by : List ℕ → List ℕ
+gathered-by words =
+    let state = afterTurns (bytes words) (startOn words 2 (zeros 2)) (0 ∷ 0 ∷ 1 ∷ 1 ∷ 0 ∷ []) .state in
+    getD state 0 0 ∷ getD state 33 0 ∷ getD state 49 0 ∷ getD state 65 0 ∷ getD state 81 0 ∷ []
+
+roster-named : gathered-by (rosters 2 2) ≡ 1 ∷ 0 ∷ 0 ∷ 1 ∷ 0 ∷ []
+unfolding opened zeros rosters gathered-by
+roster-named = refl
+
+roster-not-named : gathered-by (rosters 3 1) ≡ 0 ∷ 0 ∷ 0 ∷ 0 ∷ 1 ∷ []
+unfolding opened zeros rosters gathered-by
+roster-not-named = refl
+
+-- "Older tables have B zero and mean roster 0."
+older-table : gathered-by (rosters 0 0) ≡ 1 ∷ 1 ∷ 0 ∷ 0 ∷ 0 ∷ []
+unfolding opened zeros rosters gathered-by
+older-table = refl
 
 -- values: an environment whose doors 11 and 12 both hold 7 if read
 

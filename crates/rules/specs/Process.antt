@@ -4,18 +4,19 @@ use mathlib.Core.List.{List, _++_}
 use Prim.Native.Nat.{ℕ, zero, suc, _+_, _-_, _*_}
 use lib.Dec.{ltb, eqb}
 use lib.ListN.{getD, set, take, drop}
-use Rattle.rules.specs.Evaluation.{Environment, value, doors}
-use Rattle.rules.specs.Table.{body}
+use Rattle.rules.specs.Evaluation.{Environment, value, doors, areaSlots}
+use Rattle.rules.specs.Table.{body, gatheredAreas}
 use Rattle.rules.specs.Table.{Statement, nothing, assign, sequence, branch, loop, call, latch, collective, leave}
 use Rattle.rules.specs.WellFormed.{nearestLoop}
 
--- "In lent words that is 329: 32, 16, 12, 12, depth, 256 stack places, first entry lowest." Variables stand at 0. The code's
--- constants are held to these names in src/layout.rt.
+-- "In lent words that is 329: 32, 16, 12, 12, depth, 256 stack places, first entry lowest", and since then "A bank's state is 377
+-- words, the rosters standing together where the one stood". Variables stand at 0. The code's constants are held to these names
+-- in src/layout.rt.
 abbrev pub variablePlaces : ℕ
 variablePlaces = 32
 
 abbrev pub gatheredPlaces : ℕ
-gatheredPlaces = 16
+gatheredPlaces = gatheredAreas * areaSlots
 
 abbrev pub latchPlaces : ℕ
 latchPlaces = 12

@@ -25,7 +25,7 @@ startSize table = variables table + doors
 abbrev pub question19 : List ℕ → ℕ → List ℕ → Verdict
 question19 table count words = ask 19 (eqb (length words) (startSize table * count))
 
--- 20: "State exactly 329 words a bank?"
+-- 20: "State exactly 329 words a bank?", by now 377
 abbrev pub question20 : ℕ → List ℕ → Verdict
 question20 count state = ask 20 (eqb (length state) (processWords * count))
 
@@ -79,7 +79,7 @@ started table count words state roll =
     startedBy (startVerdict table count words state roll) table count words state roll
 
 -- "A host sees a bank's latches as the part of the lent state that holds them. For a bank the state lacks, or a state whose
--- length is not a multiple of 329, that part is empty."
+-- length is not a multiple of 329", by now of 377, "that part is empty."
 unfoldable pub latchesOf : List ℕ → ℕ → List ℕ
 latchesOf state p =
     cond (eqb (length state % processWords) 0 && ltb p (length state / processWords))

@@ -59,25 +59,29 @@ firstStatement = 16
 abbrev pub lastStatement : ℕ
 lastStatement = 26
 
+-- "A bank has four rosters of sixteen. Kinds 5 and 25 name one in field B, 0 to 3." A roster is called a gathered area here.
+abbrev pub gatheredAreas : ℕ
+gatheredAreas = 4
+
 -- kinds 6 to 12
 pub data Operator : Type 0 where
   sum difference product quotient less equal both : Operator
 
--- "Expressions", in the order of their kinds 0 to 12; parts are node numbers
+-- "Expressions", in the order of their kinds 0 to 12; parts are node numbers, and a slot's second number is its area
 pub data Expression : Type 0 where
   constant : ℕ → Expression
   variable : ℕ → Expression
   ownNumber : Expression
   processCount : Expression
   door : ℕ → Expression
-  slot : ℕ → Expression
+  slot : ℕ → ℕ → Expression
   operation : Operator → ℕ → ℕ → Expression
 
--- kinds 23 to 25, the collectives (the paper's meetings)
+-- kinds 23 to 25, the collectives (the paper's meetings); an exchange's second number is the area that it fills
 pub data Collective : Type 0 where
   barrier : Collective
   broadcast : ℕ → ℕ → ℕ → Collective
-  exchange : ℕ → Collective
+  exchange : ℕ → ℕ → Collective
 
 -- "Statements", in the order of their kinds 16 to 22, the collectives, and "New statement kind 26, no fields"; parts are node
 -- numbers
@@ -101,7 +105,7 @@ expressionOf m =
     ∷ ownNumber
     ∷ processCount
     ∷ door (m .a)
-    ∷ slot (m .a)
+    ∷ slot (m .a) (m .b)
     ∷ operation sum (m .a) (m .b)
     ∷ operation difference (m .a) (m .b)
     ∷ operation product (m .a) (m .b)
@@ -126,7 +130,7 @@ statementOf m =
     ∷ latch (m .a) (m .b)
     ∷ collective barrier
     ∷ collective (broadcast (m .a) (m .b) (m .c))
-    ∷ collective (exchange (m .a))
+    ∷ collective (exchange (m .a) (m .b))
     ∷ leave
     ∷ [])
     (m .kind - firstStatement)

@@ -10,7 +10,7 @@ use Rattle.rules.specs.Answers.{_then_, ask, askEach}
 use Rattle.rules.specs.Below.{atNode}
 use Rattle.rules.specs.Choice.{allBelow, firstFailing}
 use Rattle.rules.specs.Table.{wordAt, edition, variables, procedures, nodes, procedureWord, body, nodeAt}
-use Rattle.rules.specs.Table.{lastExpression, firstStatement, lastStatement}
+use Rattle.rules.specs.Table.{lastExpression, firstStatement, lastStatement, gatheredAreas}
 use Rattle.rules.specs.Table.{Expression, constant, variable, ownNumber, processCount, door, slot, operation}
 use Rattle.rules.specs.Table.{Statement, nothing, assign, sequence, branch, loop, call, latch, collective, leave}
 use Rattle.rules.specs.Table.{Collective, barrier, broadcast, exchange}
@@ -68,11 +68,12 @@ kindKnown table n = isExpression table n || isStatement table n
 abbrev pub question7 : List ℕ → Verdict
 question7 table = askEach 7 (nodes table) (kindKnown table)
 
--- how many of the fields A, B, C a kind names: the first so many. Kind 0 names B and C instead.
+-- how many of the fields A, B, C a kind names: the first so many, kinds 5 and 25 the roster "in field B". Kind 0 names B and C
+-- instead.
 unfoldable pub namedFields : ℕ → ℕ
 namedFields kind =
     getD
-    (0 ∷ 1 ∷ 0 ∷ 0 ∷ 1 ∷ 1 ∷ 2 ∷ 2 ∷ 2 ∷ 2 ∷ 2 ∷ 2 ∷ 2 ∷ 0 ∷ 0 ∷ 0 ∷ 0 ∷ 2 ∷ 2 ∷ 3 ∷ 2 ∷ 1 ∷ 2 ∷ 0 ∷ 3 ∷ 1 ∷ 0 ∷ [])
+    (0 ∷ 1 ∷ 0 ∷ 0 ∷ 1 ∷ 2 ∷ 2 ∷ 2 ∷ 2 ∷ 2 ∷ 2 ∷ 2 ∷ 2 ∷ 0 ∷ 0 ∷ 0 ∷ 0 ∷ 2 ∷ 2 ∷ 3 ∷ 2 ∷ 1 ∷ 2 ∷ 0 ∷ 3 ∷ 2 ∷ 0 ∷ [])
     kind
     0
 
@@ -87,7 +88,8 @@ unnamedZero m =
 abbrev pub question8 : List ℕ → Verdict
 question8 table = askEach 8 (nodes table) (λ n. unnamedZero (nodeAt table n))
 
--- 9: "Is a variable below V, a procedure below P, a part's node below the node naming it and of the sort named?"
+-- 9: "Is a variable below V, a procedure below P, a part's node below the node naming it and of the sort named?" Of a roster,
+-- "above 3 is number 9".
 unfoldable pub expressionPart : List ℕ → ℕ → ℕ → Bool
 expressionPart table n a = ltb a n && isExpression table a
 
@@ -100,14 +102,14 @@ expressionFits table n (variable a) = ltb a (variables table)
 expressionFits table n ownNumber = true
 expressionFits table n processCount = true
 expressionFits table n (door a) = expressionPart table n a
-expressionFits table n (slot a) = expressionPart table n a
+expressionFits table n (slot a r) = expressionPart table n a && ltb r gatheredAreas
 expressionFits table n (operation o a b) = expressionPart table n a && expressionPart table n b
 
 unfoldable pub collectiveFits : List ℕ → ℕ → Collective → Bool
 collectiveFits table n barrier = true
 collectiveFits table n (broadcast a b c) =
     ltb a (variables table) && expressionPart table n b && expressionPart table n c
-collectiveFits table n (exchange a) = expressionPart table n a
+collectiveFits table n (exchange a r) = expressionPart table n a && ltb r gatheredAreas
 
 unfoldable pub statementFits : List ℕ → ℕ → Statement → Bool
 statementFits table n nothing = true
@@ -137,13 +139,13 @@ expressionParts (variable a) = []
 expressionParts ownNumber = []
 expressionParts processCount = []
 expressionParts (door a) = a ∷ []
-expressionParts (slot a) = a ∷ []
+expressionParts (slot a r) = a ∷ []
 expressionParts (operation o a b) = a ∷ b ∷ []
 
 unfoldable pub collectiveParts : Collective → List ℕ
 collectiveParts barrier = []
 collectiveParts (broadcast a b c) = b ∷ c ∷ []
-collectiveParts (exchange a) = a ∷ []
+collectiveParts (exchange a r) = a ∷ []
 
 unfoldable pub statementParts : Statement → List ℕ
 statementParts nothing = []

@@ -1,20 +1,26 @@
 // The numbers of the layout, each once in the code and once in the definitions: specs/Process.antt (places and offsets),
-// Evaluation.antt (doors), Table.antt (kinds), WellFormed.antt, Arrivals.antt and Acceptance.antt (the other sizes). The
-// functions below hold the two to each other.
+// Evaluation.antt (doors, slots), Table.antt (kinds, gathered areas), WellFormed.antt, Arrivals.antt and Acceptance.antt (the other
+// sizes). The functions below hold the two to each other.
 ghost use mathlib.Core.List.{_∷_, []};
 ghost use mathlib.Core.Path.{_≡_};
+ghost use Prim.Native.Nat.{_+_, _<_};
 ghost use Rattle.rules.specs.Acceptance.{scratchWords};
 ghost use Rattle.rules.specs.Arrivals.{arrivalSize};
-ghost use Rattle.rules.specs.Evaluation.{doors};
+ghost use Rattle.rules.specs.Evaluation.{doors, areaSlots, gatheredSlot};
 ghost use Rattle.rules.specs.Process.{variablePlaces, gatheredPlaces, latchPlaces, stackPlaces, mostProcesses};
 ghost use Rattle.rules.specs.Process.{gatheredAt, doorsAt, latchesAt, depthAt, stackAt, processWords};
-ghost use Rattle.rules.specs.Table.{lastExpression, firstStatement, lastStatement};
+ghost use Rattle.rules.specs.Table.{lastExpression, firstStatement, lastStatement, gatheredAreas};
 ghost use Rattle.rules.specs.WellFormed.{mostTableBytes};
 
 // The parts of a process's words, in their order; between latches and stack stands the depth.
 pub const VARIABLE_PLACES: usize = 32;
 
-pub const GATHERED_PLACES: usize = 16;
+// "four rosters of sixteen": the areas of gathered words, and the slots of one.
+pub const GATHERED_AREAS: usize = 4;
+
+pub const AREA_SLOTS: usize = 16;
+
+pub const GATHERED_PLACES: usize = GATHERED_AREAS * AREA_SLOTS;
 
 pub const DOOR_PLACES: usize = 12;
 
@@ -55,12 +61,22 @@ pub const FIRST_STATEMENT: u32 = 16;
 
 pub const LAST_STATEMENT: u32 = 26;
 
-fn sizes() -> [usize; 9]
-    ensures { λ r. ⌜ r ≡ variablePlaces ∷ gatheredPlaces ∷ doors ∷ latchPlaces ∷ stackPlaces ∷ mostTableBytes ∷ arrivalSize
-        ∷ scratchWords ∷ mostProcesses ∷ [] ⌝ }
+// Where slot i of a gathered area stands.
+pub fn slot_at(area: usize, i: usize) -> usize
+    requires { ⌜ (area < gatheredAreas) × (i < areaSlots) ⌝ }
+    ensures { λ r. ⌜ r ≡ gatheredAt + gatheredSlot area i ⌝ }
+{
+    GATHERED_AT + AREA_SLOTS * area + i
+}
+
+fn sizes() -> [usize; 11]
+    ensures { λ r. ⌜ r ≡ variablePlaces ∷ gatheredAreas ∷ areaSlots ∷ gatheredPlaces ∷ doors ∷ latchPlaces ∷ stackPlaces
+        ∷ mostTableBytes ∷ arrivalSize ∷ scratchWords ∷ mostProcesses ∷ [] ⌝ }
 {
     [
         VARIABLE_PLACES,
+        GATHERED_AREAS,
+        AREA_SLOTS,
         GATHERED_PLACES,
         DOOR_PLACES,
         LATCH_PLACES,

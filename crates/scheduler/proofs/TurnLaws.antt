@@ -49,7 +49,7 @@ lacked-same : (roll other : List ℕ) (q : ℕ) → SameRecord other roll q → 
 unfolding lackedZero
 lacked-same roll other q same barrier = rw (same .value, same .source)
 lacked-same roll other q same (broadcast a b c) = refl
-lacked-same roll other q same (exchange a) = rw (same .source)
+lacked-same roll other q same (exchange a r) = rw (same .source)
 
 fits-same : (table state roll other : List ℕ) (q : ℕ) → SameRecord other roll q
     → processFits table state other q ≡ processFits table state roll q

@@ -38,7 +38,7 @@ module _ (table : List ℕ) (n : ℕ) (few : n < 65536) where
   own-least (latch a b) = omega arith
   own-least (collective barrier) = omega arith
   own-least (collective (broadcast a b c)) = omega (arith, high 14 (omega arith) (collective (broadcast a b c)))
-  own-least (collective (exchange a)) = omega arith
+  own-least (collective (exchange a r)) = omega arith
   own-least leave = omega arith
 
   pub rule-high : ruleCode table n ≤ none

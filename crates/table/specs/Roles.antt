@@ -4,16 +4,16 @@ use mathlib.Core.List.{List, [], _∷_}
 use Prim.Native.Nat.{ℕ, _/_, _%_}
 use lib.Dec.{ltb, eqb}
 use lib.ListN.{getD}
-use Rattle.rules.specs.Table.{variables, procedures}
+use Rattle.rules.specs.Table.{variables, procedures, gatheredAreas}
 use Rattle.rules.specs.WellFormed.{expressionPart, statementPart}
 
--- A role is 0 unnamed, 1 a variable, 2 an expression part, 3 a statement part, 4 a procedure, 5 half of a constant. The digits of
--- a number are the roles of the fields A, B, C of a kind, from 0 on.
+-- A role is 0 unnamed, 1 a variable, 2 an expression part, 3 a statement part, 4 a procedure, 5 half of a constant, 6 a gathered
+-- area. The digits of a number are the roles of the fields A, B, C of a kind, from 0 on.
 unfoldable pub roles : List ℕ
 roles =
-    55 ∷ 100 ∷ 0 ∷ 0 ∷ 200 ∷ 200 ∷ 220 ∷ 220 ∷ 220 ∷ 220 ∷ 220 ∷ 220 ∷ 220
+    55 ∷ 100 ∷ 0 ∷ 0 ∷ 200 ∷ 260 ∷ 220 ∷ 220 ∷ 220 ∷ 220 ∷ 220 ∷ 220 ∷ 220
     ∷ 0 ∷ 0 ∷ 0
-    ∷ 0 ∷ 120 ∷ 330 ∷ 233 ∷ 230 ∷ 400 ∷ 220 ∷ 0 ∷ 122 ∷ 200 ∷ 0 ∷ []
+    ∷ 0 ∷ 120 ∷ 330 ∷ 233 ∷ 230 ∷ 400 ∷ 220 ∷ 0 ∷ 122 ∷ 260 ∷ 0 ∷ []
 
 -- the role of a field of a kind, by the value of its digit's place: 100 for A, 10 for B, 1 for C. The fields of an unknown kind
 -- are unnamed.
@@ -37,7 +37,8 @@ fieldFits table n role value =
     cond (eqb role 1) (ltb value (variables table))
     (cond (eqb role 2) (expressionPart table n value)
     (cond (eqb role 3) (statementPart table n value)
-    (cond (eqb role 4) (ltb value (procedures table)) true)))
+    (cond (eqb role 4) (ltb value (procedures table))
+    (cond (eqb role 6) (ltb value gatheredAreas) true))))
 
 -- the nodes that one field names
 unfoldable pub fieldParts : ℕ → ℕ → List ℕ

@@ -14,6 +14,7 @@ use crate::words::node_at;
 use crate::words::word;
 use rules::Node;
 use rules::layout::FIRST_STATEMENT;
+use rules::layout::GATHERED_AREAS;
 use rules::layout::LAST_EXPRESSION;
 use rules::layout::LAST_STATEMENT;
 
@@ -28,6 +29,8 @@ pub const STATEMENT: u16 = 3;
 
 pub const PROCEDURE: u16 = 4;
 
+pub const AREA: u16 = 6;
+
 // The roles of the fields A, B, C of a kind, a digit each. A 5 is half of a constant, which may be any number.
 const ROLES: [u16; 27] = [
     55, // 0 constant B × 512 + C
@@ -35,7 +38,7 @@ const ROLES: [u16; 27] = [
     0, // 2 own number
     0, // 3 number of processes
     200, // 4 door A
-    200, // 5 slot A
+    260, // 5 slot A of area B
     220, // 6 sum
     220, // 7 difference
     220, // 8 product
@@ -55,7 +58,7 @@ const ROLES: [u16; 27] = [
     220, // 22 latch A takes B
     0, // 23 barrier
     122, // 24 broadcast to variable A of B from C
-    200, // 25 exchange of A
+    260, // 25 exchange of A into area B
     0, // 26 leave
 ];
 
@@ -194,6 +197,9 @@ pub fn field_fits(table: &[u8], header: Header, n: usize, role: u16, value: usiz
     }
     if role == PROCEDURE {
         return value < header.procedures;
+    }
+    if role == AREA {
+        return value < GATHERED_AREAS;
     }
     true
 }

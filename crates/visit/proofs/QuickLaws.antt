@@ -308,11 +308,11 @@ module _ (kind : ℕ) where
   unfolding roles
   named-3 = ⊎-elim (named-as 3 refl) (named-as 16 refl)
 
-  pub named-4 : (kind ≡ 4) ⊎ (kind ≡ 25) → Named kind 200
+  pub named-4 : kind ≡ 4 → Named kind 200
   unfolding roles
-  named-4 = ⊎-elim (named-as 4 refl) (named-as 25 refl)
+  named-4 = named-as 4 refl
 
-  pub named-5 : kind ≡ 5 → Named kind 200
+  pub named-5 : kind ≡ 5 → Named kind 260
   unfolding roles
   named-5 = named-as 5 refl
 
@@ -352,6 +352,10 @@ module _ (kind : ℕ) where
   pub named-24 : kind ≡ 24 → Named kind 122
   unfolding roles
   named-24 = named-as 24 refl
+
+  pub named-25 : kind ≡ 25 → Named kind 260
+  unfolding roles
+  named-25 = named-as 25 refl
 
   pub named-26 : kind ≡ 26 → Named kind 0
   unfolding roles

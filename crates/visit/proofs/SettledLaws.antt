@@ -173,11 +173,9 @@ module _ (table : List ℕ) (n : ℕ) (header : Header) (facts : List ℕ) (size
       ⊎-elim (λ (e : kind ≡ 3). plain 0 a (quiet 3 e refl) (sym (fact-as table n 3 e)))
       (λ (e : kind ≡ 16). plain 0 a (quiet 16 e refl) (sym (fact-as table n 16 e)))
 
-  pub judges-4 : (kind ≡ 4) ⊎ (kind ≡ 25) → Judges table n facts 1 0 a
+  pub judges-4 : kind ≡ 4 → Judges table n facts 1 0 a
   unfolding sourced asked once
-  judges-4 =
-      ⊎-elim (λ (e : kind ≡ 4). plain 1 a (quiet 4 e refl) (sym (fact-as table n 4 e)))
-      (λ (e : kind ≡ 25). plain 1 a (quiet 25 e refl) (sym (fact-as table n 25 e)))
+  judges-4 e = plain 1 a (quiet 4 e refl) (sym (fact-as table n 4 e))
 
   pub judges-5 : kind ≡ 5 → Judges table n facts 5 0 a
   unfolding sourced asked roleOf roles
@@ -253,6 +251,10 @@ module _ (table : List ℕ) (n : ℕ) (header : Header) (facts : List ℕ) (size
   judges-24 e =
       let p = expression c (c-fits 24 e) in
       guarded 1 14 c refl p (sym (fact-24 table n e)) (rw (fact-24 table n e) (rule-24 table n e (p .sorted)))
+
+  pub judges-25 : kind ≡ 25 → Judges table n facts 1 0 a
+  unfolding sourced asked once
+  judges-25 e = plain 1 a (quiet 25 e refl) (sym (fact-as table n 25 e))
 
   pub judges-26 : kind ≡ 26 → Judges table n facts 0 0 a
   unfolding sourced asked once

@@ -1,5 +1,6 @@
 //! Tables of an exact size, of the statements that real tables have.
 
+use finchchaise::GATHERED_AREAS;
 use finchchaise_compare::{renumber, Random};
 use finchchaise_samples::Builder;
 
@@ -8,6 +9,7 @@ const SINGLE: u32 = 1;
 pub const VARIABLES: usize = 2;
 /// Nodes of a loop that is left early.
 const SEARCH: usize = 10;
+const PIECES: usize = 6;
 
 /// Adds a statement of at most so many nodes, 3 or more; the last number says whose turn it is.
 type Piece = fn(&mut Builder, usize, usize) -> u32;
@@ -65,7 +67,7 @@ fn filled(table: &mut Builder, nodes: usize, turn: usize, piece: Piece) -> u32 {
     match nodes {
         1 if called > 0 => table.call(called - 1),
         1 => table.nothing(),
-        2 => exchange(table),
+        2 => exchange(table, turn),
         3 => latch(table),
         4 => table.increase(OWN),
         _ => {
@@ -78,12 +80,12 @@ fn filled(table: &mut Builder, nodes: usize, turn: usize, piece: Piece) -> u32 {
     }
 }
 
-/// One of six statements in turn.
+/// One of `PIECES` statements in turn.
 fn piece(table: &mut Builder, most: usize, turn: usize) -> u32 {
-    match turn % 6 {
+    match turn % PIECES {
         0 if most >= 4 => table.increase(OWN),
         1 if most >= 6 => choose(table),
-        2 => exchange(table),
+        2 => exchange(table, turn),
         3 => broadcast(table),
         4 => look_at_door(table),
         _ => latch(table),
@@ -109,9 +111,11 @@ fn search(table: &mut Builder) -> u32 {
     table.repeat(always, look)
 }
 
-fn exchange(table: &mut Builder) -> u32 {
+/// Into one area after another.
+fn exchange(table: &mut Builder, turn: usize) -> u32 {
+    let area = turn / PIECES % GATHERED_AREAS;
     let value = table.variable(OWN);
-    table.exchange(value)
+    table.exchange(value, area as u32)
 }
 
 fn latch(table: &mut Builder) -> u32 {

@@ -5,7 +5,7 @@ use crate::work::{self, Work, LIBRARY, NATIVE};
 use crate::{inputs, native};
 use finchchaise::{Answer, Refusal, Served, DOORS, PROCESS_WORDS, ROLL_WORDS, SCRATCH_WORDS};
 use finchchaise_compare::{damaged, leaving, random_bytes, small_table, stack, table};
-use finchchaise_compare::{MadeUp, Random, Shown, Tally};
+use finchchaise_compare::{Area, MadeUp, Random, Shown, Tally};
 use finchchaise_samples::Builder;
 
 const TABLES: usize = 20_000;
@@ -34,6 +34,7 @@ fn checks_are_answered_alike() {
     }
     tally.assert_refused((1..=17).chain([26]), 10);
     tally.assert_leaves(&[(Shown::Accepted, 200), (Shown::LeftLocally, 10)]);
+    tally.assert_areas(&[(Area::Beyond, 20)]);
 }
 
 #[test]

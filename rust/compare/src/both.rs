@@ -102,6 +102,11 @@ impl Team<'_> {
         self.table
     }
 
+    /// The state, which both have alike.
+    pub fn state(&self) -> &[u32] {
+        self.model.state.lent()
+    }
+
     /// The roll, which both have alike.
     pub fn roll(&self) -> &[u32] {
         self.model.roll.lent()
@@ -109,12 +114,12 @@ impl Team<'_> {
 
     /// The stack of a process, which both have alike.
     pub fn stack(&self, process: u32) -> &[u32] {
-        leaves::stack(self.model.state.lent(), process).unwrap_or(&[])
+        leaves::stack(self.state(), process).unwrap_or(&[])
     }
 
     /// The same, if a leave is on top.
     pub fn leaving(&self, process: u32) -> Option<Vec<u32>> {
-        leaving(self.table, self.model.state.lent(), process).map(<[u32]>::to_vec)
+        leaving(self.table, self.state(), process).map(<[u32]>::to_vec)
     }
 
     /// Whether a call passes the questions up to 23.

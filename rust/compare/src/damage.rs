@@ -2,6 +2,7 @@
 
 use crate::random::Random;
 use crate::shape::{fields, is_statement, parts, Field, BARRIER, CALL, KINDS, LEAVE, NOTHING};
+use finchchaise::GATHERED_AREAS;
 use finchchaise_samples::{bytes, Builder};
 
 /// The table's bytes with one or two changes.
@@ -159,6 +160,8 @@ fn small_field(table: &Builder, field: Field, procedures: usize, random: &mut Ra
         Field::Number => random.below(512) as u32,
         Field::Variable => random.nearly_below(table.variables as usize) as u32,
         Field::Procedure => random.nearly_below(procedures) as u32,
+        Field::Area if random.one_in(16) => random.edge() & 0x1FF,
+        Field::Area => random.below(GATHERED_AREAS) as u32,
         Field::Expression | Field::Statement => {
             let unused = unused(table, field);
             match unused.is_empty() || random.one_in(50) {

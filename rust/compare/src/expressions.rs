@@ -1,6 +1,7 @@
 //! Random expressions whose values tell the cases of a kind apart.
 
 use crate::generator::Draft;
+use crate::shape::GATHERED;
 
 /// Divisor 0, the last door and the first that is none, process counts, fields that are full.
 const CONSTANTS: [u32; 16] = [
@@ -11,8 +12,8 @@ impl Draft<'_> {
     /// At most `budget` nodes; single in every process if `single`.
     pub fn expression(&mut self, budget: usize, single: bool) -> u32 {
         match self.random.below(12) {
-            0 | 1 if budget >= 2 && !single => self.looked_up(4, budget, false),
-            2 | 3 if budget >= 2 => self.looked_up(5, budget, single),
+            0 | 1 if budget >= 2 && !single => self.door(budget),
+            2 | 3 if budget >= 2 => self.gathered(budget, single),
             4..=10 if budget >= 3 => self.combined(budget, single),
             _ if budget > 8 => self.combined(budget, single),
             _ => self.plain(single),
@@ -42,14 +43,21 @@ impl Draft<'_> {
         self.add(0, [0, value / 512, value % 512], false)
     }
 
-    /// A door or a gathered word: kind 4 or 5.
-    fn looked_up(&mut self, kind: u32, budget: usize, single: bool) -> u32 {
-        let index = match self.random.one_in(8) {
-            true => budget - 1,
-            false => (budget - 1).min(3),
-        };
-        let index = self.expression(index, single);
-        self.add(kind, [index, 0, 0], false)
+    fn door(&mut self, budget: usize) -> u32 {
+        let door = self.index(budget - 1, false);
+        self.add(4, [door, 0, 0], false)
+    }
+
+    fn gathered(&mut self, budget: usize, single: bool) -> u32 {
+        let slot = self.index(budget - 1, single);
+        let area = self.area();
+        self.add(GATHERED, [slot, area, 0], false)
+    }
+
+    /// Mostly of few nodes.
+    fn index(&mut self, budget: usize, single: bool) -> u32 {
+        let most = if self.random.one_in(8) { budget } else { 3 };
+        self.expression(budget.min(most), single)
     }
 
     fn combined(&mut self, budget: usize, single: bool) -> u32 {

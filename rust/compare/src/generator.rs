@@ -2,7 +2,8 @@
 
 use crate::order::renumber;
 use crate::random::Random;
-use crate::shape::LEAVE;
+use crate::shape::{EXCHANGE, LEAVE};
+use finchchaise::GATHERED_AREAS;
 use finchchaise_samples::Builder;
 
 /// Tables are given at most one of these numbers of nodes.
@@ -20,10 +21,12 @@ pub fn table(random: &mut Random, careful: bool) -> Builder {
     let flags = random.number();
     let single: Vec<u32> = (0..variables).filter(|a| flags >> a & 1 == 1).collect();
     let strays = !careful && random.one_in(10);
+    let areas = [(); 2].map(|()| random.below(GATHERED_AREAS) as u32);
     let mut draft = Draft {
         random,
         table: Builder::new(variables, &single),
         effects: Vec::new(),
+        areas,
         careful,
         strays,
     };
@@ -41,6 +44,8 @@ pub(crate) struct Draft<'random> {
     pub table: Builder,
     /// Whether each node is a statement with a global effect.
     effects: Vec<bool>,
+    /// The gathered areas that most nodes name, so that those read are often filled before.
+    areas: [u32; 2],
     careful: bool,
     /// Whether leaves stand anywhere, also without a while around them.
     strays: bool,
@@ -117,6 +122,13 @@ impl Draft<'_> {
         (0..self.table.variables)
             .map(|step| (first + step) % self.table.variables)
             .find(|&variable| self.is_single(variable) == single)
+    }
+
+    pub fn area(&mut self) -> u32 {
+        match self.random.one_in(8) {
+            true => self.random.below(GATHERED_AREAS) as u32,
+            false => self.random.pick(&self.areas),
+        }
     }
 
     /// What is left after one node, in two parts that are not 0. Often nearly all goes to the first,
@@ -200,7 +212,8 @@ impl Draft<'_> {
 
     fn exchange(&mut self, budget: usize) -> u32 {
         let value = self.expression(budget - 1, false);
-        self.add(25, [value, 0, 0], true)
+        let area = self.area();
+        self.add(EXCHANGE, [value, area, 0], true)
     }
 
     fn sequence(&mut self, budget: usize, place: Place) -> u32 {

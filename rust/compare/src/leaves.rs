@@ -1,7 +1,7 @@
 //! What a comparison has covered of leaves.
 
 use crate::shape::{LEAVE, NOTHING};
-use crate::tree::{leaves_collectives, nodes_of, Node};
+use crate::tree::{leaves_collectives, nodes_of, with_nodes, Node};
 use crate::words;
 use finchchaise::{Refusal, DEPTH_AT, PROCESS_WORDS, SCRATCH_WORDS, STACK_AT};
 
@@ -56,13 +56,10 @@ pub fn of_check(table: &[u8], answer: Result<(), Refusal>) -> Vec<Shown> {
 
 /// The model's judgement of the table with nothing in place of every leave.
 fn without_leaves(table: &[u8]) -> Result<(), Refusal> {
-    let mut table = table.to_vec();
-    let first = table.len() - 4 * nodes_of(&table).count();
-    for word in table[first..].chunks_exact_mut(4) {
-        if word[0] == (LEAVE << 3) as u8 {
-            word[0] = (NOTHING << 3) as u8;
-        }
-    }
+    let table = with_nodes(table, |_, word| match word >> 27 {
+        LEAVE => NOTHING << 27,
+        _ => word,
+    });
     words::check(&table, &mut [0; SCRATCH_WORDS])
 }
 

@@ -4,6 +4,7 @@
 
 #![forbid(unsafe_code)]
 
+mod areas;
 mod both;
 mod damage;
 mod expressions;
@@ -20,6 +21,7 @@ mod tally;
 mod tree;
 mod words;
 
+pub use areas::Area;
 pub use both::{check, latches, Team};
 pub use damage::{damaged, random_bytes, small_table};
 pub use generator::table;

@@ -1,7 +1,7 @@
 //! States and rolls that no start led to: most of them sound, others not.
 
 use crate::random::Random;
-use crate::shape::{BROADCAST, FIRST_COLLECTIVE, FIRST_STATEMENT};
+use crate::shape::{BROADCAST, EXCHANGE, FIRST_COLLECTIVE, FIRST_STATEMENT};
 use crate::shape::{LAST_COLLECTIVE, LAST_EXPRESSION, LAST_STATEMENT, LEAVE, WHILE};
 use crate::tree::leaves;
 use finchchaise::{DEPTH_AT, MOST_PROCESSES, PROCESS_WORDS, ROLL_WORDS, STACK, STACK_AT};
@@ -193,7 +193,7 @@ impl MadeUp {
         self.put_top(process, node);
         let (value, source) = match nodes.kinds[node as usize] {
             BROADCAST => (random.word(), self.source(random)),
-            25 => (random.word(), 0),
+            EXCHANGE => (random.word(), 0),
             _ => (0, 0),
         };
         self.record(process)

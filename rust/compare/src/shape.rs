@@ -6,6 +6,8 @@ pub enum Field {
     Number,
     Variable,
     Procedure,
+    /// A gathered area.
+    Area,
     Expression,
     Statement,
 }
@@ -19,13 +21,15 @@ pub const LAST_EXPRESSION: u32 = 12;
 pub const FIRST_STATEMENT: u32 = 16;
 pub const LAST_STATEMENT: u32 = LEAVE;
 pub const FIRST_COLLECTIVE: u32 = BARRIER;
-pub const LAST_COLLECTIVE: u32 = 25;
+pub const LAST_COLLECTIVE: u32 = EXCHANGE;
 
+pub const GATHERED: u32 = 5;
 pub const NOTHING: u32 = FIRST_STATEMENT;
 pub const WHILE: u32 = 20;
 pub const CALL: u32 = 21;
 pub const BARRIER: u32 = 23;
 pub const BROADCAST: u32 = 24;
+pub const EXCHANGE: u32 = 25;
 pub const LEAVE: u32 = 26;
 
 pub fn is_statement(kind: u32) -> bool {
@@ -42,7 +46,8 @@ pub fn fields(kind: u32) -> [Field; 3] {
     match kind {
         0 => [Unnamed, Number, Number],
         1 => [Variable, Unnamed, Unnamed],
-        4 | 5 | 25 => [Expression, Unnamed, Unnamed],
+        4 => [Expression, Unnamed, Unnamed],
+        GATHERED | EXCHANGE => [Expression, Area, Unnamed],
         6..=12 | 22 => [Expression, Expression, Unnamed],
         17 => [Variable, Expression, Unnamed],
         18 => [Statement, Statement, Unnamed],

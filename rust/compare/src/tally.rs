@@ -1,10 +1,11 @@
 //! What a comparison has covered.
 
+use crate::areas::{self, Area, AREAS};
 use crate::both::Team;
 use crate::leaves::{self, Shown, SHOWN};
 use crate::served::{self, Ending, ENDINGS};
 use crate::sources::{self, SOURCES};
-use finchchaise::{Answer, Event, Refusal, Served, TeamStatus};
+use finchchaise::{Answer, Event, Refusal, Served, TeamStatus, GATHERED_AREAS};
 use std::io::Write;
 use std::{fmt, io};
 
@@ -25,6 +26,8 @@ pub struct Tally {
     pub leaves: [usize; SHOWN.len()],
     /// Sources of broadcasts that took place, in the order of `SOURCES`.
     pub sources: [usize; SOURCES.len()],
+    /// What was shown of gathered areas, in the order of `AREAS`.
+    pub areas: [usize; AREAS.len()],
     /// Turns that were served.
     pub made: usize,
     /// How serving ended, in the order of `ENDINGS`.
@@ -39,9 +42,10 @@ impl Tally {
         }
     }
 
-    /// A check, also of what it shows of leaves.
+    /// A check, also of what it shows of leaves and areas.
     pub fn checked(&mut self, table: &[u8], answer: Result<(), Refusal>) {
         self.judged(answer);
+        self.named(areas::of_check(table, answer));
         leaves::of_check(table, answer)
             .into_iter()
             .for_each(|shown| self.shown(shown));
@@ -59,6 +63,24 @@ impl Tally {
         sources::of_step(table, roll, answer)
             .into_iter()
             .for_each(|source| self.sources[source as usize] += 1);
+    }
+
+    /// A step of a team with this state and roll before it, by the areas that it filled or read.
+    pub fn gathered(
+        &mut self,
+        team: &Team,
+        state: &[u32],
+        roll: &[u32],
+        process: u32,
+        answer: Result<Answer, Refusal>,
+    ) {
+        self.named(areas::of_step(team, state, roll, process, answer));
+    }
+
+    fn named(&mut self, areas: impl IntoIterator<Item = Area>) {
+        for area in areas {
+            self.areas[area.place()] += 1;
+        }
     }
 
     pub fn shown(&mut self, shown: Shown) {
@@ -124,6 +146,20 @@ impl Tally {
         }
     }
 
+    pub fn assert_areas(&self, wanted: &[(Area, usize)]) {
+        for &(area, least) in wanted {
+            let times = self.areas[area.place()];
+            assert!(times >= least, "{area:?} only {times} times: {self}");
+        }
+    }
+
+    /// Exchanges into every area.
+    pub fn assert_filled(&self, least: usize) {
+        for area in 0..GATHERED_AREAS as u32 {
+            self.assert_areas(&[(Area::Filled(area), least)]);
+        }
+    }
+
     pub fn assert_endings(&self, wanted: &[(Ending, usize)]) {
         for &(ending, least) in wanted {
             let times = self.endings[ending as usize];
@@ -147,9 +183,10 @@ impl fmt::Display for Tally {
             write!(out, ", {} turns served", self.made)?;
         }
         let words = EVENTS.iter().chain(&TEAMS).chain(&SHOWN).chain(&SOURCES);
-        let words = words.chain(&ENDINGS);
-        let shown = self.leaves.iter().chain(&self.sources).chain(&self.endings);
-        let times = self.events.iter().chain(&self.teams).chain(shown);
+        let words = words.chain(&AREAS).chain(&ENDINGS);
+        let times = self.events.iter().chain(&self.teams).chain(&self.leaves);
+        let times = times.chain(&self.sources).chain(&self.areas);
+        let times = times.chain(&self.endings);
         for (word, times) in words.zip(times) {
             if *times > 0 {
                 write!(out, ", {word} {times}")?;

@@ -17,6 +17,17 @@ pub fn nodes_of(table: &[u8]) -> impl Iterator<Item = Node> + '_ {
     })
 }
 
+/// The table with each node's word as `change` has it, given the node's number and word.
+pub fn with_nodes(table: &[u8], change: impl Fn(usize, u32) -> u32) -> Vec<u8> {
+    let mut table = table.to_vec();
+    let first = table.len() - 4 * nodes_of(&table).count();
+    let (words, _) = table[first..].as_chunks_mut();
+    for (number, bytes) in words.iter_mut().enumerate() {
+        *bytes = change(number, u32::from_be_bytes(*bytes)).to_be_bytes();
+    }
+    table
+}
+
 /// The node that names each one as a part, if there is one.
 pub fn users(nodes: &[Node]) -> Vec<Option<usize>> {
     let mut users = vec![None; nodes.len()];

@@ -2,7 +2,7 @@
 
 use finchchaise::{Answer, Refusal, TeamStatus};
 use finchchaise::{DOORS, LATCHES, MOST_PROCESSES, PROCESS_WORDS, ROLL_WORDS, SCRATCH_WORDS};
-use finchchaise_compare::{check, latches, MadeUp, Plan, Random, Shown, Tally, Team};
+use finchchaise_compare::{check, latches, Area, MadeUp, Plan, Random, Shown, Tally, Team};
 use finchchaise_compare::{damaged, random_bytes, small_table, start_words, table};
 
 const CHECKS_A_SOURCE: usize = 50_000;
@@ -63,12 +63,14 @@ fn checks_of_damaged_tables() {
         damaged(&table(random, careful), random)
     });
     tally.assert_refused((1..=17).chain([26]), 50);
+    tally.assert_areas(&[(Area::Beyond, 50)]);
 }
 
 #[test]
 fn checks_of_small_tables() {
     let tally = checks("checks of small tables", 4, small_table);
     tally.assert_refused([6, 8, 9, 10, 11, 12, 17, 26], 50);
+    tally.assert_areas(&[(Area::Beyond, 100)]);
 }
 
 #[test]
@@ -80,10 +82,11 @@ fn checks_of_random_bytes() {
 /// A step, and what it shows.
 fn step(team: &mut Team, process: u32, tally: &mut Tally) -> Result<Answer, Refusal> {
     let leaving = team.leaving(process);
-    let roll = team.roll().to_vec();
+    let (state, roll) = (team.state().to_vec(), team.roll().to_vec());
     let answer = team.step(process);
     tally.stepped(answer);
     tally.sent(team.table(), &roll, answer);
+    tally.gathered(team, &state, &roll, process, answer);
     if let (Ok(_), Some(stack)) = (answer, leaving) {
         tally.left(&stack, team.stack(process).len());
     }
@@ -163,6 +166,8 @@ fn runs(what: &str, seed: u64, least: usize, counts: &[usize]) {
     let leaves = [Shown::Left, Shown::PastOthers, Shown::Finished];
     runs.steps.assert_leaves(&leaves.map(|shown| (shown, 200)));
     runs.steps.assert_sources(200);
+    runs.steps.assert_filled(100);
+    runs.steps.assert_areas(&[(Area::Read, 500)]);
 }
 
 #[test]
@@ -261,6 +266,8 @@ fn steps_of_made_up_teams() {
     tally.assert_leaves(&leaves.map(|shown| (shown, 500)));
     tally.assert_leaves(&[(Shown::Finished, 200), (Shown::NotBelow, 500)]);
     tally.assert_sources(500);
+    tally.assert_filled(200);
+    tally.assert_areas(&[(Area::Read, 200)]);
 }
 
 #[test]

@@ -3,7 +3,7 @@
 //! The host lends all memory; the library allocates nothing and keeps nothing between calls. Any
 //! bytes and words may be passed: what does not fit is refused, and what is refused changes neither
 //! state nor roll. The words are described in docs/FORMAT.md. A process is the rules paper's bank,
-//! a team its site, a step its turn and a collective its meeting.
+//! a team its site, a step its turn, a collective its meeting and a gathered area its roster.
 //!
 //! ```
 //! use finchchaise::{check, serve, start, step, Event, TeamStatus};
@@ -46,8 +46,12 @@ pub const SCRATCH_WORDS: usize = 24;
 
 /// The parts of a process's words, in their order: variables first.
 pub const VARIABLES: usize = 32;
-/// The paper's roster.
-pub const GATHERED: usize = 16;
+/// Gathered areas of a process; an exchange fills the one that it names.
+pub const GATHERED_AREAS: usize = 4;
+/// Slots of an area, one for each process that there can be.
+pub const AREA_SLOTS: usize = 16;
+/// The words of all areas, of which area r has those from `AREA_SLOTS` * r on.
+pub const GATHERED: usize = GATHERED_AREAS * AREA_SLOTS;
 /// Start words are the table's variables and these, for each process.
 pub const DOORS: usize = 12;
 pub const LATCHES: usize = 12;

@@ -5,7 +5,7 @@ use finchchaise::*;
 const HEADER: &str = include_str!("../../../include/finchchaise.h");
 const CODE: &str = include_str!("../../../crates/rules/src/layout.rt");
 
-/// What a text says that a name is: a number, or a sum of numbers and names.
+/// What a text says that a name is: a sum of numbers, names and products of them.
 fn value(text: &str, name: &str) -> usize {
     let said = text.lines().find_map(|line| {
         let line = line.trim().trim_end_matches([',', ';']);
@@ -15,7 +15,8 @@ fn value(text: &str, name: &str) -> usize {
     });
     let sum = said.unwrap_or_else(|| panic!("{name} is missing"));
     let number = |part: &str| part.parse().unwrap_or_else(|_| value(text, part));
-    sum.split(" + ").map(number).sum()
+    let product = |term: &str| -> usize { term.split(" * ").map(number).product() };
+    sum.split(" + ").map(product).sum()
 }
 
 #[test]
@@ -26,6 +27,8 @@ fn numbers_are_the_same_on_all_sides() {
         (ROLL_WORDS, "FC_ROLL_WORDS", "ARRIVAL_WORDS"),
         (SCRATCH_WORDS, "FC_SCRATCH_WORDS", "SCRATCH_WORDS"),
         (VARIABLES, "FC_VARIABLES", "VARIABLE_PLACES"),
+        (GATHERED_AREAS, "FC_GATHERED_AREAS", "GATHERED_AREAS"),
+        (AREA_SLOTS, "FC_AREA_SLOTS", "AREA_SLOTS"),
         (GATHERED, "FC_GATHERED", "GATHERED_PLACES"),
         (DOORS, "FC_DOORS", "DOOR_PLACES"),
         (LATCHES, "FC_LATCHES", "LATCH_PLACES"),

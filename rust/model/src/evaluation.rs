@@ -13,7 +13,7 @@ impl Process {
             Kind::OwnNumber => self.number,
             Kind::Count => self.count,
             Kind::Door => self.door(self.value(table, a)),
-            Kind::Gathered => self.slot(self.value(table, a)),
+            Kind::Gathered => self.slot(b, self.value(table, a)),
             kind => combine(kind, self.value(table, a), self.value(table, b)),
         }
     }
@@ -22,9 +22,9 @@ impl Process {
         self.doors.get(door as usize).copied().unwrap_or(0)
     }
 
-    fn slot(&self, slot: u32) -> u32 {
+    fn slot(&self, area: usize, slot: u32) -> u32 {
         if slot < self.count {
-            self.gathered[slot as usize]
+            self.gathered[area][slot as usize]
         } else {
             0
         }

@@ -3,11 +3,13 @@
 use crate::table::{Kind, Table};
 
 const VARIABLES: usize = 32;
-const GATHERED: usize = 16;
+/// The gathered areas (the paper's rosters), and the slots of each.
+pub const AREAS: usize = 4;
+const SLOTS: usize = 16;
 pub const DOORS: usize = 12;
 const LATCHES: usize = 12;
 const STACK: usize = 256;
-const LATCHES_BEGIN: usize = VARIABLES + GATHERED + DOORS;
+const LATCHES_BEGIN: usize = VARIABLES + AREAS * SLOTS + DOORS;
 const LATCHES_END: usize = LATCHES_BEGIN + LATCHES;
 pub const PROCESS_WORDS: usize = LATCHES_END + 1 + STACK;
 
@@ -15,8 +17,8 @@ pub struct Process {
     pub number: u32,
     pub count: u32,
     pub variables: [u32; VARIABLES],
-    /// The paper's roster.
-    pub gathered: [u32; GATHERED],
+    /// The areas, one after another.
+    pub gathered: [[u32; SLOTS]; AREAS],
     pub doors: [u32; DOORS],
     pub latches: [u32; LATCHES],
     pub depth: u32,
@@ -30,7 +32,7 @@ impl Process {
             number: number as u32,
             count: count as u32,
             variables: [0; VARIABLES],
-            gathered: [0; GATHERED],
+            gathered: [[0; SLOTS]; AREAS],
             doors: [0; DOORS],
             latches: [0; LATCHES],
             depth: 0,
@@ -42,7 +44,7 @@ impl Process {
     fn words(&mut self) -> impl Iterator<Item = &mut u32> {
         self.variables
             .iter_mut()
-            .chain(&mut self.gathered)
+            .chain(self.gathered.as_flattened_mut())
             .chain(&mut self.doors)
             .chain(&mut self.latches)
             .chain([&mut self.depth])

@@ -1,5 +1,6 @@
 //! The table out of its bytes, and questions 2 to 12 and 26.
 
+use crate::process::AREAS;
 use crate::refusal::{ask, ask_each, Refusal};
 
 /// A table that has passed questions 2 to 12 and 26.
@@ -66,6 +67,8 @@ enum Field {
     Number,
     Variable,
     Procedure,
+    /// A gathered area.
+    Area,
     Expression,
     Statement,
 }
@@ -91,7 +94,8 @@ impl Kind {
             Kind::Variable => [Variable, Unnamed, Unnamed],
             Kind::OwnNumber | Kind::Count => [Unnamed; 3],
             Kind::Nothing | Kind::Barrier | Kind::Leave => [Unnamed; 3],
-            Kind::Door | Kind::Gathered | Kind::Exchange => [Expression, Unnamed, Unnamed],
+            Kind::Door => [Expression, Unnamed, Unnamed],
+            Kind::Gathered | Kind::Exchange => [Expression, Area, Unnamed],
             Kind::Sum | Kind::Difference | Kind::Product | Kind::Quotient => {
                 [Expression, Expression, Unnamed]
             }
@@ -201,7 +205,7 @@ impl Table {
             .all(|(field, value)| field != Field::Unnamed || value == 0)
     }
 
-    /// Question 9.
+    /// Question 9; for an area "above 3 is number 9".
     fn named_fields_fit(&self, node: usize) -> bool {
         self.nodes[node]
             .labelled_fields()
@@ -209,6 +213,7 @@ impl Table {
                 Field::Unnamed | Field::Number => true,
                 Field::Variable => value < self.variables,
                 Field::Procedure => value < self.procedures.len(),
+                Field::Area => value < AREAS,
                 Field::Expression => value < node && !self.is_statement(value),
                 Field::Statement => value < node && self.is_statement(value),
             })

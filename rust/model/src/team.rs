@@ -234,10 +234,10 @@ impl Team {
 
     /// The collective at `node` takes place.
     fn complete(&mut self, node: usize) {
-        let [variable, _, _] = self.table.nodes[node].fields;
+        let [a, b, _] = self.table.nodes[node].fields;
         match self.table.nodes[node].kind {
-            Kind::Broadcast => self.broadcast(variable),
-            Kind::Exchange => self.exchange(),
+            Kind::Broadcast => self.broadcast(a),
+            Kind::Exchange => self.exchange(b),
             _ => (),
         }
         for (process, arrival) in self.processes.iter_mut().zip(&mut self.arrivals) {
@@ -257,10 +257,10 @@ impl Team {
         }
     }
 
-    /// Slots from the count on keep their words.
-    fn exchange(&mut self) {
+    /// Slots from the count on and the other areas keep their words.
+    fn exchange(&mut self, area: usize) {
         for process in &mut self.processes {
-            for (slot, arrival) in process.gathered.iter_mut().zip(&self.arrivals) {
+            for (slot, arrival) in process.gathered[area].iter_mut().zip(&self.arrivals) {
                 *slot = arrival.value;
             }
         }

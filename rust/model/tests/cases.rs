@@ -25,14 +25,17 @@ fn t2() -> Vec<u8> {
 }
 
 /// Latch 0 after one process's step that sets it to the last expression. Doors
-/// 0 and 11 hold 4 and 9, gathered words 0 and 1 hold 6 and a mark.
+/// 0 and 11 hold 4 and 9, slots 0 and 1 of each area hold 6 more than its
+/// number and a mark.
 fn latched(expression: &[[u32; 4]]) -> u32 {
     let mut nodes = expression.to_vec();
     let last = nodes.len() as u32;
     nodes.extend([[0, 0, 0, 0], [22, last, last - 1, 0]]);
     let table = table_of(&nodes);
     let (mut state, mut arrivals) = started(&table, 1, &[0, 4, 0, 0, 0, 0, 0, 0, 0, 0, 0, 0, 9]);
-    state[GATHERED..GATHERED + 2].copy_from_slice(&[6, MARK]);
+    for (slots, value) in state[GATHERED..DOORS].chunks_mut(SLOTS).zip(6..) {
+        slots[..2].copy_from_slice(&[value, MARK]);
+    }
     step(&table, &mut state, &mut arrivals, 0).expect("a step");
     latches(&state, 0)[0]
 }
@@ -91,8 +94,11 @@ fn expressions_at_their_edges() {
     let constant = |value: u32| [0, 0, value / 512, value % 512];
     let door = |number| latched(&[constant(number), [4, 0, 0, 0]]);
     assert_eq!((door(11), door(12)), (9, 0));
-    let slot = |number| latched(&[constant(number), [5, 0, 0, 0]]);
-    assert_eq!((slot(0), slot(1), slot(16)), (6, 0, 0));
+    let slot = |area, number| latched(&[constant(number), [5, 0, area, 0]]);
+    for area in 0..AREAS {
+        assert_eq!(slot(area, 0), 6 + area);
+        assert_eq!((slot(area, 1), slot(area, 16)), (0, 0));
+    }
     let quotient = |left, right| latched(&[constant(left), constant(right), [9, 0, 1, 0]]);
     assert_eq!((quotient(7, 2), quotient(7, 0)), (3, 0));
     assert_eq!(latched(&[constant(513)]), 513);
@@ -100,13 +106,15 @@ fn expressions_at_their_edges() {
 
 #[test]
 fn a_gathered_word_is_single_by_its_index() {
-    let judged = |index| {
-        let mut table = table_of(&[index, [5, 0, 0, 0], [17, 0, 1, 0]]);
+    let judged = |index, area| {
+        let mut table = table_of(&[index, [5, 0, area, 0], [17, 0, 1, 0]]);
         table[4] = 0x80; // variable 0 is single
         check_table(&table)
     };
-    assert_eq!(judged([3, 0, 0, 0]), "accepted\n");
-    assert_eq!(judged([2, 0, 0, 0]), "refused 13 2\n");
+    for area in 0..AREAS {
+        assert_eq!(judged(COUNT, area), "accepted\n");
+        assert_eq!(judged(OWN, area), "refused 13 2\n");
+    }
 }
 
 #[test]
@@ -259,7 +267,7 @@ fn collectives_use_each_process_own_source_and_fill_alike() {
     );
     assert_eq!(answers[8].team, TeamStatus::Done);
     assert_eq!(arrivals, [ENDED; 3]);
-    assert_eq!(state[GATHERED..GATHERED + 5], [5, 6, 7, MARK, 0]);
+    assert_eq!(area(&state, 0)[..5], [5, 6, 7, MARK, 0]);
     let variable = |process: usize| state[process * PROCESS_WORDS];
     assert_eq!([variable(0), variable(1), variable(2)], [6, 7, 0]);
 }

@@ -79,8 +79,9 @@ impl Builder {
         self.node(4, door, 0, 0)
     }
 
-    pub fn gathered(&mut self, slot: u32) -> u32 {
-        self.node(5, slot, 0, 0)
+    /// An area is the paper's roster, 0 to 3.
+    pub fn gathered(&mut self, slot: u32, area: u32) -> u32 {
+        self.node(5, slot, area, 0)
     }
 
     pub fn sum(&mut self, left: u32, right: u32) -> u32 {
@@ -89,6 +90,10 @@ impl Builder {
 
     pub fn less(&mut self, left: u32, right: u32) -> u32 {
         self.node(10, left, right, 0)
+    }
+
+    pub fn equal(&mut self, left: u32, right: u32) -> u32 {
+        self.node(11, left, right, 0)
     }
 }
 
@@ -130,8 +135,8 @@ impl Builder {
         self.node(24, variable, value, source)
     }
 
-    pub fn exchange(&mut self, value: u32) -> u32 {
-        self.node(25, value, 0, 0)
+    pub fn exchange(&mut self, value: u32, area: u32) -> u32 {
+        self.node(25, value, area, 0)
     }
 
     pub fn leave(&mut self) -> u32 {
@@ -153,5 +158,28 @@ impl Builder {
         let one = self.constant(1);
         let new = self.sum(old, one);
         self.assign(variable, new)
+    }
+
+    /// Statements one after another, of which there is at least one.
+    pub fn row(&mut self, statements: &[u32]) -> u32 {
+        let (last, before) = statements.split_last().expect("a statement");
+        let backwards = before.iter().rev();
+        backwards.fold(*last, |rest, &first| self.sequence(first, rest))
+    }
+
+    /// The body for each number from the variable's on, while it is less than the limit.
+    pub fn count_up(
+        &mut self,
+        variable: u32,
+        limit: impl Fn(&mut Builder) -> u32,
+        body: impl Fn(&mut Builder) -> u32,
+    ) -> u32 {
+        let number = self.variable(variable);
+        let limit = limit(self);
+        let any_left = self.less(number, limit);
+        let body = body(self);
+        let next = self.increase(variable);
+        let body = self.sequence(body, next);
+        self.repeat(any_left, body)
     }
 }

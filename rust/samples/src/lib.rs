@@ -5,8 +5,10 @@
 #![forbid(unsafe_code)]
 
 mod builder;
+mod rosters;
 
 pub use builder::{bytes, Builder};
+pub use rosters::rosters;
 
 /// A file of samples/.
 pub struct Sample {
@@ -23,11 +25,13 @@ pub fn samples() -> Vec<Sample> {
         file("stocktake.table", stocktake()),
         file("search.table", search()),
         file("tariff.table", tariff()),
+        file("rosters.table", rosters()),
         file("t2-two.run", t2_two()),
         file("stocktake.run", stocktake_run()),
         file("search.run", search_run()),
         file("tariff.run", tariff_run()),
         file("stocktake.serve", stocktake_serve()),
+        file("rosters.serve", rosters::serve()),
     ]
 }
 
@@ -67,48 +71,52 @@ pub fn stocktake() -> Vec<u8> {
     let add_up = add_up(&mut table);
     let counting = table.call(count_doors);
     let occupied = table.variable(OCCUPIED);
-    let exchange = table.exchange(occupied);
+    let exchange = table.exchange(occupied, 0);
     let adding = table.call(add_up);
-    let shown = table.constant(0);
-    let total = table.variable(TOTAL);
-    let show = table.latch(shown, total);
-    let end = table.sequence(adding, show);
-    let middle = table.sequence(exchange, end);
-    let body = table.sequence(counting, middle);
+    let show = show(&mut table, 0, TOTAL);
+    let body = table.row(&[counting, exchange, adding, show]);
     table.procedure(body, true);
     table.bytes()
 }
 
+/// A latch takes a variable.
+fn show(table: &mut Builder, latch: u32, variable: u32) -> u32 {
+    let latch = table.constant(latch);
+    let shown = table.variable(variable);
+    table.latch(latch, shown)
+}
+
 /// Door by door; no global effect, since only own variables change.
 fn count_doors(table: &mut Builder) -> u32 {
-    let door = table.variable(DOOR);
-    let doors = table.constant(12);
-    let any_left = table.less(door, doors);
-    let door = table.variable(DOOR);
-    let is_occupied = table.door(door);
-    let count = table.increase(OCCUPIED);
-    let pass = table.nothing();
-    let look = table.choose(is_occupied, count, pass);
-    let next = table.increase(DOOR);
-    let body = table.sequence(look, next);
-    let body = table.repeat(any_left, body);
+    let body = each_door(table, |table| {
+        let door = table.variable(DOOR);
+        let is_occupied = table.door(door);
+        let count = table.increase(OCCUPIED);
+        let pass = table.nothing();
+        table.choose(is_occupied, count, pass)
+    });
     table.procedure(body, false)
+}
+
+/// The look at each door in DOOR, which is 0 at the start.
+fn each_door(table: &mut Builder, look: impl Fn(&mut Builder) -> u32) -> u32 {
+    table.count_up(DOOR, |table| table.constant(12), look)
 }
 
 /// Slot by slot; it assigns single variables, so it has a global effect.
 fn add_up(table: &mut Builder) -> u32 {
-    let slot = table.variable(SLOT);
-    let count = table.count();
-    let any_left = table.less(slot, count);
-    let total = table.variable(TOTAL);
-    let slot = table.variable(SLOT);
-    let counted = table.gathered(slot);
-    let new_total = table.sum(total, counted);
-    let add = table.assign(TOTAL, new_total);
-    let next = table.increase(SLOT);
-    let body = table.sequence(add, next);
-    let body = table.repeat(any_left, body);
+    let add = |table: &mut Builder| add_slot(table, TOTAL, SLOT, 0);
+    let body = table.count_up(SLOT, Builder::count, add);
     table.procedure(body, true)
+}
+
+/// The total grows by the slot of an area.
+fn add_slot(table: &mut Builder, total: u32, slot: u32, area: u32) -> u32 {
+    let old = table.variable(total);
+    let slot = table.variable(slot);
+    let counted = table.gathered(slot, area);
+    let new = table.sum(old, counted);
+    table.assign(total, new)
 }
 
 /// Every process looks for its first empty door, the doors found are exchanged, and each process
@@ -120,7 +128,7 @@ pub fn search() -> Vec<u8> {
     let mut table = Builder::new(1, &[]);
     let find = find_empty(&mut table);
     let door = table.variable(DOOR);
-    let exchange = table.exchange(door);
+    let exchange = table.exchange(door, 0);
     let door = table.variable(DOOR);
     let opened = table.constant(1);
     let open = table.latch(door, opened);

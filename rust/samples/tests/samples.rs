@@ -1,8 +1,8 @@
 //! The files of samples/ are what this package makes, and what their .md files say of them is true.
 
 use finchchaise_model::{check_table, run_team, schedule_team};
-use finchchaise_model::{latches, start, step, Arrival, PROCESS_WORDS};
-use finchchaise_samples::{samples, search, stocktake, tariff, Sample};
+use finchchaise_model::{latches, start, step, Arrival, Event, PROCESS_WORDS};
+use finchchaise_samples::{rosters, samples, search, stocktake, tariff, Sample};
 use std::fs;
 use std::path::PathBuf;
 
@@ -87,8 +87,8 @@ fn assert_printed(session: &str) {
 #[test]
 fn explanations_show_what_is_printed() {
     let mut sessions = 0;
-    for name in ["t1.md", "t2.md", "stocktake.md", "search.md", "tariff.md"] {
-        let text = text(name);
+    for name in ["t1", "t2", "stocktake", "search", "tariff", "rosters"] {
+        let text = text(&format!("{name}.md"));
         for session in text
             .split("```\n")
             .filter(|part| part.starts_with("$ ./site"))
@@ -102,13 +102,23 @@ fn explanations_show_what_is_printed() {
 
 /// The state after a run, given its start words and turns.
 fn state_after(table: &[u8], start_words: &[u32], count: usize, turns: usize) -> Vec<u32> {
+    let (state, _) = after(table, start_words, count, turns);
+    state
+}
+
+/// The same, and the nodes at which the processes met.
+fn after(table: &[u8], start_words: &[u32], count: usize, turns: usize) -> (Vec<u32>, Vec<u32>) {
     let mut state = vec![0; count * PROCESS_WORDS];
     let mut arrivals = vec![Arrival::default(); count];
+    let mut met = Vec::new();
     start(table, count as u32, start_words, &mut state, &mut arrivals).expect("a start");
     for turn in 0..count * turns {
-        step(table, &mut state, &mut arrivals, (turn % count) as u32).expect("a step");
+        let answer = step(table, &mut state, &mut arrivals, (turn % count) as u32);
+        if let Event::Completed(node) = answer.expect("a step").event {
+            met.push(node);
+        }
     }
-    state
+    (state, met)
 }
 
 /// Latches 0, 1 and 2 of every process.
@@ -118,10 +128,11 @@ fn shown(state: &[u32]) -> Vec<[u32; 3]> {
     (0..count).map(first).collect()
 }
 
-/// The start words within a run's input.
-fn start_words(run: &str, table: &[u8], words: usize) -> Vec<u32> {
-    let input = fs::read(folder().join(run)).expect(run);
-    let (begin, _) = input[8 + table.len()..].as_chunks();
+/// The start words within a program's input: behind length, table and the numbers of the call.
+fn start_words(file: &str, table: &[u8], words: usize) -> Vec<u32> {
+    let numbers = if file.ends_with(".serve") { 3 } else { 1 };
+    let input = fs::read(folder().join(file)).expect(file);
+    let (begin, _) = input[4 + table.len() + 4 * numbers..].as_chunks();
     begin[..words]
         .iter()
         .copied()
@@ -129,8 +140,11 @@ fn start_words(run: &str, table: &[u8], words: usize) -> Vec<u32> {
         .collect()
 }
 
-/// Where the gathered words begin in a process's words.
-const GATHERED_AT: usize = 32;
+/// The paper's rosters in a process's words.
+fn areas(words: &[u32]) -> &[[u32; 16]; 4] {
+    let (areas, _) = words[32..].as_chunks();
+    areas.first_chunk().expect("four areas")
+}
 
 #[test]
 fn latches_hold_what_is_said() {
@@ -155,7 +169,20 @@ fn search_finds_the_doors_that_are_said() {
     let state = state_after(&search(), &given, 3, 68);
     assert_eq!(shown(&state), [[0, 0, 1], [1, 0, 0], [0, 0, 0]]);
     for words in state.chunks(PROCESS_WORDS) {
-        assert_eq!(words[GATHERED_AT..][..3], [2, 0, 12]);
+        assert_eq!(areas(words)[0][..3], [2, 0, 12]);
+    }
+}
+
+#[test]
+fn rosters_hold_what_is_said() {
+    let given = start_words("rosters.serve", &rosters(), 3 * 20);
+    let (state, met) = after(&rosters(), &given, 3, 411 / 3);
+    assert_eq!(met, [60, 62, 64]);
+    assert_eq!(shown(&state), [[9, 6, 3]; 3]);
+    for words in state.chunks(PROCESS_WORDS) {
+        let counts = areas(words).map(|slots| [slots[0], slots[1], slots[2]]);
+        assert_eq!(counts, [[3, 5, 1], [1, 2, 3], [1, 0, 2], [0, 0, 0]]);
+        assert_eq!(words[4..8], [3, 9, 6, 3]);
     }
 }
 

@@ -5,9 +5,9 @@ use native.Mathlib.Omega.{arith}
 use Rattle.rules.specs.declared.Node.{Node}
 use Rattle.rules.specs.WellFormed.{isExpression, isStatement, kindKnown}
 use Rattle.visit.proofs.QuickLaws.{named-0, named-1, named-2, named-3, named-4, named-5, named-6}
-use Rattle.visit.proofs.QuickLaws.{named-17, named-18, named-19, named-20, named-21, named-22, named-24, named-26}
+use Rattle.visit.proofs.QuickLaws.{named-17, named-18, named-19, named-20, named-21, named-22, named-24, named-25, named-26}
 use Rattle.visit.proofs.SettledLaws.{judges-0, judges-1, judges-2, judges-3, judges-4, judges-5, judges-6}
-use Rattle.visit.proofs.SettledLaws.{judges-17, judges-18, judges-19, judges-20, judges-21, judges-22, judges-24, judges-26}
+use Rattle.visit.proofs.SettledLaws.{judges-17, judges-18, judges-19, judges-20, judges-21, judges-22, judges-24, judges-25, judges-26}
 use Rattle.quick.proofs.VisitLaws.{leave-arm, plain-arm, no-arm, other-as, other-either, other-below, called-below, operation-kind, unnamed-kind}
 use borrow.Author.Needs.{needs}
 use Rattle.quick.proofs.quick.Statement.{statement}
@@ -163,14 +163,11 @@ unpacked-requires-14 c κs = search needs
 fields-requires-14 : tie.Need-fields-requires-14
 fields-requires-14 c κs = search needs
 
-note-leave-requires : tie.Need-note-leave-requires
-note-leave-requires c κs = search needs
-
 settled-requires-14 : tie.Need-settled-requires-14
 settled-requires-14 c κs =
-    let fields = c .before .before .before .before .before .before .before .fields14 in
-    let given = c .before .before .before .before .before .before .before .before .before .before .before .before .before .before .pre .0 in
-    ((given .0, given .1, c .before .before .before .note-leave .ensures .0 .size), (omega arith, λ used called. absurd (omega arith)))
+    let fields = c .before .before .before .fields14 in
+    let given = c .before .before .before .before .before .before .before .before .before .before .pre .0 in
+    ((given .0, given .1, fields .ensures .size), (omega arith, λ used called. absurd (omega arith)))
 
 unpacked-requires-15 : tie.Need-unpacked-requires-15
 unpacked-requires-15 c κs = search needs
@@ -178,9 +175,24 @@ unpacked-requires-15 c κs = search needs
 fields-requires-15 : tie.Need-fields-requires-15
 fields-requires-15 c κs = search needs
 
+note-leave-requires : tie.Need-note-leave-requires
+note-leave-requires c κs = search needs
+
 settled-requires-15 : tie.Need-settled-requires-15
 settled-requires-15 c κs =
-    let fields = c .before .before .before .fields15 in
+    let fields = c .before .before .before .before .before .before .before .fields15 in
+    let given = c .before .before .before .before .before .before .before .before .before .before .before .before .before .before .pre .0 in
+    ((given .0, given .1, c .before .before .before .note-leave .ensures .0 .size), (omega arith, λ used called. absurd (omega arith)))
+
+unpacked-requires-16 : tie.Need-unpacked-requires-16
+unpacked-requires-16 c κs = search needs
+
+fields-requires-16 : tie.Need-fields-requires-16
+fields-requires-16 c κs = search needs
+
+settled-requires-16 : tie.Need-settled-requires-16
+settled-requires-16 c κs =
+    let fields = c .before .before .before .fields16 in
     let given = c .before .before .before .before .before .before .before .before .before .before .before .pre .0 in
     ((given .0, given .1, fields .ensures .size), (omega arith, λ used called. absurd (omega arith)))
 
@@ -256,8 +268,8 @@ returns-5 c =
     let kind = taken .before .before .before .before .kind-of .ensures ∙ ap (λ (m : Node). m .kind) (start .pre .1) in
     let given = start .pre .0 in
     plain-arm _ _ (given .0) (given .1) _ _ _ _ _ _ _ _ _ _ node (rw (kind, ← node) at (named-4 _ key))
-    (λ inside fits known. rw node (judges-4 _ _ _ _ (given .0) inside fits known (rw kind at key)))
-    (given .2) (taken .fields5 .ensures) (c .before .before .settled5 .ensures) (rw (kind, ← node) at (other-either 4 25 refl refl key))
+    (λ inside fits known. rw node (judges-4 _ _ _ _ (given .0) inside fits known (sym kind ∙ key)))
+    (given .2) (taken .fields5 .ensures) (c .before .before .settled5 .ensures) (rw (kind, ← node) at (other-as 4 refl key))
 
 same-length-6 : tie.Need-same-length-6
 same-length-6 c = search needs
@@ -384,47 +396,62 @@ same-length-14 c = search needs
 
 returns-14 : tie.Need-returns-14
 returns-14 c =
-    let taken = c .before .before .before .before .before .before .before .before .before .before in
+    let taken = c .before .before .before .before .before .before in
     let start = taken .before .before .before .before .before .before .before in
     let node = taken .before .before .unpacked14 .ensures ∙ start .pre .1 in
     let key = taken .before .before .before .match .keys14 in
     let kind = taken .before .before .before .before .kind-of .ensures ∙ ap (λ (m : Node). m .kind) (start .pre .1) in
     let given = start .pre .0 in
-    let noted = c .before .before .before .before .before .before .note-leave .ensures in
-    leave-arm _ _ (given .0) (given .1) _ _ _ _ _ _ _ _ _ _ _ node (rw (kind, ← node) at (named-26 _ key))
-    (λ inside fits known. rw node (judges-26 _ _ _ _ (given .0) inside fits known (sym kind ∙ key)))
-    (given .2) (taken .fields14 .ensures) (noted .0) (c .before .before .settled14 .ensures)
-    (rw (kind, ← node) at key) (noted .1)
+    plain-arm _ _ (given .0) (given .1) _ _ _ _ _ _ _ _ _ _ node (rw (kind, ← node) at (named-25 _ key))
+    (λ inside fits known. rw node (judges-25 _ _ _ _ (given .0) inside fits known (sym kind ∙ key)))
+    (given .2) (taken .fields14 .ensures) (c .before .before .settled14 .ensures) (rw (kind, ← node) at (other-as 25 refl key))
 
 same-length-15 : tie.Need-same-length-15
 same-length-15 c = search needs
 
 returns-15 : tie.Need-returns-15
 returns-15 c =
+    let taken = c .before .before .before .before .before .before .before .before .before .before in
+    let start = taken .before .before .before .before .before .before .before in
+    let node = taken .before .before .unpacked15 .ensures ∙ start .pre .1 in
+    let key = taken .before .before .before .match .keys15 in
+    let kind = taken .before .before .before .before .kind-of .ensures ∙ ap (λ (m : Node). m .kind) (start .pre .1) in
+    let given = start .pre .0 in
+    let noted = c .before .before .before .before .before .before .note-leave .ensures in
+    leave-arm _ _ (given .0) (given .1) _ _ _ _ _ _ _ _ _ _ _ node (rw (kind, ← node) at (named-26 _ key))
+    (λ inside fits known. rw node (judges-26 _ _ _ _ (given .0) inside fits known (sym kind ∙ key)))
+    (given .2) (taken .fields15 .ensures) (noted .0) (c .before .before .settled15 .ensures)
+    (rw (kind, ← node) at key) (noted .1)
+
+same-length-16 : tie.Need-same-length-16
+same-length-16 c = search needs
+
+returns-16 : tie.Need-returns-16
+returns-16 c =
     let taken = c .before .before .before .before .before .before in
     let start = taken .before .before .before .before .before .before .before .before in
-    let node = taken .before .before .unpacked15 .ensures ∙ start .pre .1 in
+    let node = taken .before .before .unpacked16 .ensures ∙ start .pre .1 in
     let low = taken .before .before .before .if1 .taken in
     let rest = taken .before .before .before .before .match .rest in
-    let first = rest .0 .0 .0 .0 .0 .0 .0 .0 in
+    let first = rest .0 .0 .0 .0 .0 .0 .0 .0 .0 in
     let key =
     operation-kind (first .0 .0 .0 .0 .0 .1) (first .0 .0 .0 .0 .1) (first .0 .0 .0 .1) (first .0 .0 .1) (first .0 .1) (first .1) low in
     let kind = taken .before .before .before .before .before .kind-of .ensures ∙ ap (λ (m : Node). m .kind) (start .pre .1) in
     let given = start .pre .0 in
     plain-arm _ _ (given .0) (given .1) _ _ _ _ _ _ _ _ _ _ node (rw (kind, ← node) at (named-6 _ key))
     (λ inside fits known. rw node (judges-6 _ _ _ _ (given .0) inside fits known (rw kind at key)))
-    (given .2) (taken .fields15 .ensures) (c .before .before .settled15 .ensures)
+    (given .2) (taken .fields16 .ensures) (c .before .before .settled16 .ensures)
     (rw (kind, ← node) at (other-below low))
 
-returns-16 : tie.Need-returns-16
+returns-17 : tie.Need-returns-17
 unfolding kindKnown isExpression isStatement
-returns-16 c =
+returns-17 c =
     let rest = c .before .match .rest in
     let start = c .before .before .before .before .before in
     let given = start .pre .0 in
-    let first = rest .0 .0 .0 .0 .0 .0 .0 in
+    let first = rest .0 .0 .0 .0 .0 .0 .0 .0 in
     let unknown =
-    unnamed-kind (first .0 .0 .0 .0 .1) (first .0 .0 .0 .1) (first .0 .0 .1) (first .1)
+    unnamed-kind (first .0 .0 .0 .0 .1) (first .0 .0 .0 .1) (first .1) (rest .0 .0 .0 .0 .0 .0 .0 .1)
     (rest .0 .0 .0 .0 .0 .0 .1) (rest .0 .0 .0 .0 .0 .1) (rest .0 .0 .0 .0 .1) (rest .0 .0 .0 .1) (rest .0 .0 .1) (rest .0 .1)
     (rest .1) (c .if1 .left) in
     let kind = c .before .before .kind-of .ensures ∙ ap (λ (m : Node). m .kind) (start .pre .1) in
@@ -476,11 +503,14 @@ quick-spec =
     settled-requires-13
     unpacked-requires-14
     fields-requires-14
-    note-leave-requires
     settled-requires-14
     unpacked-requires-15
     fields-requires-15
+    note-leave-requires
     settled-requires-15
+    unpacked-requires-16
+    fields-requires-16
+    settled-requires-16
     same-length
     returns
     same-length-2
@@ -511,4 +541,6 @@ quick-spec =
     returns-14
     same-length-15
     returns-15
-    returns-16)
+    same-length-16
+    returns-16
+    returns-17)

@@ -4,15 +4,8 @@ use super::reader::read;
 use super::refusal::refused;
 use super::table::{Node, Table};
 use finchchaise::{Answer, Event, Refusal, TeamStatus};
-use finchchaise::{DOORS, LATCHES, MOST_PROCESSES, PROCESS_WORDS, ROLL_WORDS};
-
-const GATHERED: usize = 32;
-const GATHERED_PLACES: usize = 16;
-const DOORS_BEGIN: usize = GATHERED + GATHERED_PLACES;
-const LATCHES_BEGIN: usize = DOORS_BEGIN + DOORS;
-const DEPTH: usize = LATCHES_BEGIN + LATCHES;
-const STACK: usize = DEPTH + 1;
-const STACK_PLACES: usize = PROCESS_WORDS - STACK;
+use finchchaise::{AREA_SLOTS, DOORS, LATCHES, MOST_PROCESSES, PROCESS_WORDS, ROLL_WORDS, STACK};
+use finchchaise::{DEPTH_AT, DOORS_AT, GATHERED_AT, LATCHES_AT, STACK_AT};
 
 const RUNNING: u32 = 0;
 const WAITING: u32 = 1;
@@ -50,7 +43,7 @@ pub fn start(
     for (given, words) in given.zip(state.as_chunks_mut::<PROCESS_WORDS>().0) {
         let (variables, doors) = given.split_at(table.variables);
         words[..variables.len()].copy_from_slice(variables);
-        words[DOORS_BEGIN..LATCHES_BEGIN].copy_from_slice(doors);
+        words[DOORS_AT..LATCHES_AT].copy_from_slice(doors);
         push(words, main_body);
     }
     Ok(())
@@ -117,7 +110,7 @@ impl Team<'_> {
     }
 
     fn is_sound(&self, words: &Words, record: &Record) -> bool {
-        let Some(stack) = words[STACK..].get(..words[DEPTH] as usize) else {
+        let Some(stack) = words[STACK_AT..].get(..words[DEPTH_AT] as usize) else {
             return false;
         };
         let is_statement = |&entry: &u32| self.table.is_statement(entry as usize);
@@ -143,7 +136,7 @@ impl Team<'_> {
     pub fn first_unsound_after(&self, event: Event, process: usize) -> Option<usize> {
         let can_leave = |&process: &usize| {
             let words = &self.processes[process];
-            let stack = &words[STACK..][..words[DEPTH] as usize];
+            let stack = &words[STACK_AT..][..words[DEPTH_AT] as usize];
             let top = stack.last();
             top.is_none_or(|&top| self.can_leave(top as usize, stack))
         };
@@ -194,7 +187,7 @@ impl Team<'_> {
             _ if !self.perform(number, node) => return refused(24, number),
             _ => (),
         }
-        if self.processes[number][DEPTH] > 0 {
+        if self.processes[number][DEPTH_AT] > 0 {
             return Ok(Event::Moved);
         }
         self.records[number] = [ENDED, 0, 0, 0];
@@ -205,7 +198,7 @@ impl Team<'_> {
     fn leave(&mut self, number: usize, top: usize) {
         let left = self.table.while_around(top);
         let words = &mut self.processes[number];
-        let (depth, stack) = words[DEPTH..].split_first_mut().expect("a stack");
+        let (depth, stack) = words[DEPTH_AT..].split_first_mut().expect("a stack");
         let entries = &mut stack[..*depth as usize];
         let is_left = |&entry: &u32| Some(entry as usize) == left;
         let kept = entries.iter().rposition(is_left).unwrap_or(0);
@@ -225,7 +218,7 @@ impl Team<'_> {
         let holds = matches!(kind, 19 | 20) && value(a) != 0;
         let body = if kind == 21 { self.table.body(a) } else { 0 };
         let words = &mut self.processes[number];
-        if words[DEPTH] as usize == STACK_PLACES && (kind == 18 || kind == 20 && holds) {
+        if words[DEPTH_AT] as usize == STACK && (kind == 18 || kind == 20 && holds) {
             return false;
         }
         match kind {
@@ -239,7 +232,7 @@ impl Team<'_> {
             _ => pop(words),
         }
         if let Some((index, value)) = place {
-            let begin = if kind == 17 { 0 } else { LATCHES_BEGIN };
+            let begin = if kind == 17 { 0 } else { LATCHES_AT };
             words[begin + index] = value;
         }
         true
@@ -267,9 +260,9 @@ impl Team<'_> {
                     words[node.a()] = sender.map_or(0, |sender| sender[2]);
                 }
                 25 => {
-                    let gathered = &mut words[GATHERED..];
+                    let slots = &mut words[area_at(node)..];
                     let values = self.records.iter().map(|record| record[2]);
-                    gathered
+                    slots
                         .iter_mut()
                         .zip(values)
                         .for_each(|(slot, value)| *slot = value);
@@ -279,7 +272,7 @@ impl Team<'_> {
             pop(words);
         }
         for (words, record) in self.processes.iter().zip(&mut *self.records) {
-            let status = if words[DEPTH] == 0 { ENDED } else { RUNNING };
+            let status = if words[DEPTH_AT] == 0 { ENDED } else { RUNNING };
             *record = [status, 0, 0, 0];
         }
     }
@@ -315,8 +308,8 @@ impl Team<'_> {
             false => 0,
         };
         match node.kind() {
-            4 => return looked_up(DOORS_BEGIN, DOORS),
-            5 => return looked_up(GATHERED, self.records.len()),
+            4 => return looked_up(DOORS_AT, DOORS),
+            5 => return looked_up(area_at(node), self.records.len()),
             _ => (),
         }
         let right = self.value(number, node.b());
@@ -332,20 +325,25 @@ impl Team<'_> {
     }
 }
 
+/// Where the area that the node names begins.
+fn area_at(node: Node) -> usize {
+    GATHERED_AT + AREA_SLOTS * node.b()
+}
+
 fn top(words: &Words) -> usize {
-    words[STACK + words[DEPTH] as usize - 1] as usize
+    words[STACK_AT + words[DEPTH_AT] as usize - 1] as usize
 }
 
 fn push(words: &mut Words, node: usize) {
-    words[STACK + words[DEPTH] as usize] = node as u32;
-    words[DEPTH] += 1;
+    words[STACK_AT + words[DEPTH_AT] as usize] = node as u32;
+    words[DEPTH_AT] += 1;
 }
 
 fn pop(words: &mut Words) {
-    words[DEPTH] -= 1;
-    words[STACK + words[DEPTH] as usize] = 0;
+    words[DEPTH_AT] -= 1;
+    words[STACK_AT + words[DEPTH_AT] as usize] = 0;
 }
 
 fn replace(words: &mut Words, node: usize) {
-    words[STACK + words[DEPTH] as usize - 1] = node as u32;
+    words[STACK_AT + words[DEPTH_AT] as usize - 1] = node as u32;
 }

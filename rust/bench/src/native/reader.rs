@@ -2,7 +2,7 @@
 
 use super::planes::{Plane, Planes, Scratch};
 use super::refusal::{call_going_up, misused, question_failed, refused, stray_leave, Fault};
-use super::table::{has_effect, is_statement, Node, Table, A, B, C};
+use super::table::{has_effect, is_statement, Node, Table, A, B, BEYOND_AREAS, C};
 use finchchaise::{Refusal, SCRATCH_WORDS};
 
 pub fn check(table: &[u8], scratch: &mut [u32]) -> Result<(), Refusal> {
@@ -158,8 +158,9 @@ impl<const JUDGED: bool> Reader<'_, JUDGED> {
             1 => self.variable(node),
             2 | 23 => node.unnamed(A | B | C).map(|()| true),
             3 | 16 => node.unnamed(A | B | C).map(|()| false),
-            4 | 25 => self.unary(node).map(|_| true),
-            5 => self.unary(node),
+            4 => self.unary(node, B | C).map(|_| true),
+            5 => self.unary(node, BEYOND_AREAS | C),
+            25 => self.unary(node, BEYOND_AREAS | C).map(|_| true),
             6..=12 => self.binary(node),
             17 => self.assign(node),
             18 => self.sequence(node),
@@ -180,8 +181,8 @@ impl<const JUDGED: bool> Reader<'_, JUDGED> {
     }
 
     #[inline(always)]
-    fn unary(&mut self, node: Node) -> Option<bool> {
-        node.unnamed(B | C)?;
+    fn unary(&mut self, node: Node, unnamed: u32) -> Option<bool> {
+        node.unnamed(unnamed)?;
         self.expression(node.a())
     }
 

@@ -36,9 +36,9 @@ impl Fault {
 pub fn question_failed(node: Node) -> u32 {
     let unnamed = match node.kind() {
         0 => A,
-        1 | 4 | 5 | 21 | 25 => B | C,
+        1 | 4 | 21 => B | C,
         2 | 3 | 16 | 23 | 26 => A | B | C,
-        6..=12 | 17 | 18 | 20 | 22 => C,
+        5..=12 | 17 | 18 | 20 | 22 | 25 => C,
         19 | 24 => 0,
         _ => return 7,
     };

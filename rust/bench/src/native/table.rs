@@ -1,7 +1,7 @@
 //! A table's words, where they lie, and questions 2 to 6.
 
 use super::refusal::refused;
-use finchchaise::Refusal;
+use finchchaise::{Refusal, GATHERED_AREAS};
 
 const MOST_NODES: usize = 256;
 
@@ -9,6 +9,9 @@ const MOST_NODES: usize = 256;
 pub const A: u32 = 0x1FF << 18;
 pub const B: u32 = 0x1FF << 9;
 pub const C: u32 = 0x1FF;
+/// The bits of B that no area's number has, which are tested with C at once.
+pub const BEYOND_AREAS: u32 = B & !((GATHERED_AREAS as u32 - 1) << 9);
+const _: () = assert!(GATHERED_AREAS.is_power_of_two());
 
 /// A table that has passed questions 2 to 6. It stays in its bytes.
 pub struct Table<'bytes> {
@@ -48,7 +51,7 @@ impl Node {
         (self.0 & 0x1FF) as usize
     }
 
-    /// `None` if one of these fields, for which its kind has no use, is not 0.
+    /// `None` if one of these fields, or parts of them, for which its kind has no use, is not 0.
     #[inline(always)]
     pub fn unnamed(self, fields: u32) -> Option<()> {
         (self.0 & fields == 0).then_some(())

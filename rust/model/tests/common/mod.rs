@@ -9,7 +9,9 @@ pub const RUNNING: Arrival = arrival(Status::Running, 0, 0, 0);
 pub const ENDED: Arrival = arrival(Status::Ended, 0, 0, 0);
 pub const MARK: u32 = 0xABCD;
 pub const GATHERED: usize = 32;
-pub const DOORS: usize = GATHERED + 16;
+pub const AREAS: u32 = 4;
+pub const SLOTS: usize = 16;
+pub const DOORS: usize = GATHERED + AREAS as usize * SLOTS;
 pub const LATCHES: usize = DOORS + 12;
 pub const DEPTH: usize = LATCHES + 12;
 pub const STACK: usize = DEPTH + 1;
@@ -91,6 +93,11 @@ pub fn stacked(entries: &[u32]) -> Vec<u32> {
     state[STACK..].fill(MARK);
     state[STACK..][..entries.len()].copy_from_slice(entries);
     state
+}
+
+/// The slots of one of a process's gathered areas.
+pub fn area(words: &[u32], number: usize) -> &[u32] {
+    &words[GATHERED + number * SLOTS..][..SLOTS]
 }
 
 /// A step that is refused and changes no word.

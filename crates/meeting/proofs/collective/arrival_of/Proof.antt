@@ -28,7 +28,7 @@ cast-value-at c = search needs
 value-at-requires : tie.Need-value-at-requires
 value-at-requires c κs =
     let given = c .before .before .before .before .before .before .pre in
-    (given .0 .given, exchange-fits (given .0) (c .before .if2 .taken))
+    (given .0 .given, exchange-fits (given .0) (c .before .if2 .taken) .0)
 
 arrive-requires-2 : tie.Need-arrive-requires-2
 arrive-requires-2 c κs = search needs

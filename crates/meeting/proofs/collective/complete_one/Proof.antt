@@ -16,7 +16,7 @@ pop-requires c κs =
     let given = past .pre in
     rw (c .before .before .before .receive .ensures)
     (stacked-by (received-length _ _ _ _ _)
-    (received-depth _ _ _ _ _ (given .0 .few) (stores-low (args .node) (given .0 .stored))) (given .1))
+    (received-depth _ _ _ _ _ (given .0 .few) (stores-low (args .node) (given .0 .stored) (given .0 .filled))) (given .1))
 
 same-length : tie.Need-same-length
 same-length c = search needs

@@ -10,17 +10,17 @@ use Rattle.meeting.proofs.collective.gather.Statement.{statement}
 use Rattle.meeting.proofs.collective.gather.Tie as tie
 
 abbrev Inv-loop : tie.InvT-loop
-Inv-loop words₀ roll count i₀ words i = (i ≤ count) × (words ≡ gatheredFrom roll i words₀)
+Inv-loop words₀ roll count area i₀ words i = (i ≤ count) × (words ≡ gatheredFrom roll area i words₀)
 
 abbrev μ-loop : tie.MeasureT-loop
-μ-loop words₀ roll count i₀ words i = count - i
+μ-loop words₀ roll count area i₀ words i = count - i
 
 loop-holds : tie.Need-loop-holds Inv-loop μ-loop
 unfolding gatheredFrom
 loop-holds c = (omega arith, refl)
 
-add-at : tie.Need-add-at Inv-loop μ-loop
-add-at c = omega arith
+slot-at-requires : tie.Need-slot-at-requires Inv-loop μ-loop
+slot-at-requires c κs = (omega arith, omega arith)
 
 value-of-requires : tie.Need-value-of-requires Inv-loop μ-loop
 value-of-requires c κs = omega arith
@@ -30,9 +30,9 @@ mul-words c = omega arith
 
 slice-write-words : tie.Need-slice-write-words Inv-loop μ-loop
 slice-write-words c =
-    let loop = c .before .before .loop in
-    let args = c .before .before .before .before .before .args in
-    omega (arith, ap length (loop .inv .1), gathered-length (args .roll .now) (loop .i) (args .words .now))
+    let loop = c .before .before .before .loop in
+    let args = c .before .before .before .before .before .before .args in
+    omega (arith, ap length (loop .inv .1), gathered-length (args .roll .now) (args .area) (loop .i) (args .words .now))
 
 add-i : tie.Need-add-i Inv-loop μ-loop
 add-i c = omega arith
@@ -43,11 +43,12 @@ loop-less c = omega arith
 loop-again : tie.Need-loop-again Inv-loop μ-loop
 unfolding gatheredFrom
 loop-again c =
-    let next : c .before .before .loop .i + 1 ≡ suc (c .before .before .loop .i) = add-one _ in
-    (omega arith, rw (next, ← c .before .before .loop .inv .1, c .value-of .ensures))
+    let loop = c .before .before .before .loop in
+    let next : loop .i + 1 ≡ suc (loop .i) = add-one _ in
+    (omega arith, rw (next, ← loop .inv .1, c .value-of .ensures, c .before .slot-at .ensures))
 
 same-length : tie.Need-same-length Inv-loop μ-loop
-same-length c = ap length (c .before .loop .inv .1) ∙ gathered-length _ _ _
+same-length c = ap length (c .before .loop .inv .1) ∙ gathered-length _ _ _ _
 
 returns : tie.Need-returns Inv-loop μ-loop
 returns c =
@@ -61,7 +62,7 @@ gather-spec =
     Inv-loop
     μ-loop
     loop-holds
-    add-at
+    slot-at-requires
     value-of-requires
     mul-words
     slice-write-words

@@ -7,8 +7,13 @@ use borrow.Author.Needs.{needs}
 use Rattle.meeting.proofs.collective.receive.Statement.{statement}
 use Rattle.meeting.proofs.collective.receive.Tie as tie
 
+cast-gather : tie.Need-cast-gather
+cast-gather c = search needs
+
 gather-requires : tie.Need-gather-requires
-gather-requires c κs = search needs
+gather-requires c κs =
+    let given = c .before .before .before .before .before .pre in
+    (given .1, given .0 .rolled, given .0 .few, given .0 .filled (c .before .before .if1 .taken))
 
 same-length : tie.Need-same-length
 same-length c = search needs
@@ -16,8 +21,8 @@ same-length c = search needs
 returns : tie.Need-returns
 unfolding received
 returns c =
-    let args = c .before .before .before .before .before .before .before .args in
-    rw (is-exchange (args .node) (c .before .before .before .before .if1 .taken)) (c .before .before .gather .ensures)
+    let args = c .before .before .before .before .before .before .before .before .args in
+    rw (is-exchange (args .node) (c .before .before .before .before .before .if1 .taken)) (c .before .before .gather .ensures)
 
 source-of-requires : tie.Need-source-of-requires
 source-of-requires c κs = search needs
@@ -62,6 +67,7 @@ pub receive-spec : {M : Type 1} → statement M
 receive-spec =
     tie.close
     (tie.spec
+    cast-gather
     gather-requires
     same-length
     returns

@@ -12,7 +12,7 @@ use Rattle.rules.specs.Process.{processWords, environment}
 use Rattle.rules.specs.Table.{lastExpression, Expression, nodeAt, expressionOf, door, slot, operation}
 use Rattle.rules.specs.WellFormed.{expressionPart}
 use Rattle.rules.proofs.Formed.{Formed, formed}
-use Rattle.rules.proofs.KindLaws.{door-of, slot-of, variable-field, first-part, second-part}
+use Rattle.rules.proofs.KindLaws.{door-of, slot-of, variable-field, slot-fields, first-part, second-part}
 use Rattle.rules.proofs.ValueLaws.{expression-part-below, expression-part-sort}
 use Rattle.process.specs.Given.{operatorOf}
 use Rattle.process.proofs.ReadLaws.{readable}
@@ -158,19 +158,24 @@ evaluate-returns-2 t c =
     let known : first .result ≡ value (table t read) (env t read) (m .a) = first .ensures in
     c .door .ensures ∙ rw known (valued t read (door (m .a)) (door-of m (c .before .if2 .taken)))
 
+evaluate-cast-slot : (t : ℕ) → evaluate-lts.Need-cast-slot (callees t) (evaluate-at t) evaluate.Post
+evaluate-cast-slot t c = search needs
+
 evaluate-slot-requires : (t : ℕ) → evaluate-lts.Need-slot-requires (callees t) (evaluate-at t) evaluate.Post
 evaluate-slot-requires t c κs =
-    let given = start t (c .before .before .before .before .before) .pre .1 .0 in
-    (given .sized, given .few)
+    let read = c .before .before .before .before .before .before in
+    let given = start t read .pre .1 .0 in
+    let m = read .node-at .result in
+    (given .sized, given .few, slot-fields (table t read) (shape t read) (start t read .args .n) m (read .node-at .ensures) (c .before .if3 .taken) .1)
 
 evaluate-returns-3 : (t : ℕ) → evaluate-lts.Need-returns-3 (callees t) (evaluate-at t) evaluate.Post
 unfolding valueOf
 evaluate-returns-3 t c =
-    let first = c .before .before .before .value-at in
-    let read = c .before .before .before .before .before .before in
+    let first = c .before .before .before .before .value-at in
+    let read = c .before .before .before .before .before .before .before in
     let m = read .node-at .result in
     let known : first .result ≡ value (table t read) (env t read) (m .a) = first .ensures in
-    c .slot .ensures ∙ rw known (valued t read (slot (m .a)) (slot-of m (c .before .if3 .taken)))
+    c .slot .ensures ∙ rw known (valued t read (slot (m .a) (m .b)) (slot-of m (c .before .before .if3 .taken)))
 
 evaluate-cast-value-at-2 : (t : ℕ) → evaluate-lts.Need-cast-value-at-2 (callees t) (evaluate-at t) evaluate.Post
 evaluate-cast-value-at-2 t c = search needs
@@ -258,6 +263,7 @@ pub +evaluate+value-at-spec : {M : Type 1} → statement M
     (evaluate-value-at-requires t)
     (evaluate-door-requires t)
     (evaluate-returns-2 t)
+    (evaluate-cast-slot t)
     (evaluate-slot-requires t)
     (evaluate-returns-3 t)
     (evaluate-cast-value-at-2 t)
