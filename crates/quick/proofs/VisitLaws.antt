@@ -2,7 +2,7 @@
 use mathlib.Core.Bool.{Bool, true, false, cond, and-false}
 use mathlib.Core.Logic.{_⊎_, inl, inr, ⊎-elim}
 use mathlib.Core.List.{List}
-use mathlib.Core.Path.{_≡_, refl, sym, _∙_}
+use mathlib.Core.Path.{_≡_, refl, sym, _∙_, ap}
 use Prim.Native.Nat.{ℕ, _+_, _≤_, _<_}
 use native.Mathlib.Decide.{decLt, ℕ-discrete}
 use native.Mathlib.Omega.{arith}
@@ -33,8 +33,13 @@ other-as k none e leave = eqb-false k 26 none (sym e ∙ leave)
 pub other-either : {kind : ℕ} (j k : ℕ) → eqb j 26 ≡ false → eqb k 26 ≡ false → (kind ≡ j) ⊎ (kind ≡ k) → kind ≡ 26 → ⊥
 other-either j k first second = ⊎-elim (other-as j first) (other-as k second)
 
-pub other-below : {kind : ℕ} → kind < 13 → kind ≡ 26 → ⊥
-other-below low leave = omega arith
+pub other-operation : {kind : ℕ}
+    → (kind ≡ 6) ⊎ ((kind ≡ 7) ⊎ ((kind ≡ 8) ⊎ ((kind ≡ 9) ⊎ ((kind ≡ 10) ⊎ ((kind ≡ 11) ⊎ (kind ≡ 12)))))) → kind ≡ 26 → ⊥
+other-operation =
+    ⊎-elim (other-as 6 refl)
+    (⊎-elim (other-as 7 refl)
+    (⊎-elim (other-as 8 refl)
+    (⊎-elim (other-as 9 refl) (⊎-elim (other-as 10 refl) (⊎-elim (other-as 11 refl) (other-as 12 refl))))))
 
 module _ (table : List ℕ) (v : Visit) (sized : Sized table (v .header)) (low : v .node < v .header .nodes) where
   abbrev n : ℕ
@@ -95,20 +100,29 @@ module _ (table : List ℕ) (v : Visit) (sized : Sized table (v .header)) (low :
       arm m roles source question guard r before now between after used here named judges size f k s
       (λ e. noted e ∙ simp (eq-eqb (m .kind) 26 is))
 
-  -- one of a node that is no leave
-  pub plain-arm : (m : Node) (roles source question guard r : ℕ) (before now after : List ℕ) (used : Bool)
-      → m ≡ nodeAt table n
-      → Named (m .kind) roles
-      → (n < nodes table → nodeFits table n ≡ true → FactsTo table n (factsPlane before)
-      → Judges table n (factsPlane before) source question guard)
+  -- that of any other node, by its word and by what the match knows of its kind
+  pub word-arm : {Key : ℕ → Type 0} {kind roles source question r : ℕ} {word m : Node} {before now after : List ℕ} {used : Bool}
+      (guard : Node → ℕ)
+      → ((k : ℕ) → Key k → Named k roles)
+      → (n < nodes table → nodeFits table n ≡ true → FactsTo table n (factsPlane before) → Key (nodeAt table n .kind)
+      → Judges table n (factsPlane before) source question (guard (nodeAt table n)))
+      → ((k : ℕ) → Key k → k ≡ 26 → ⊥)
       → length before ≡ allPlanes
+      → word ≡ nodeAt table n
+      → kind ≡ word .kind
+      → Key kind
+      → m ≡ word
       → Fields table v m roles before now used
-      → Settled table v m used source question guard now after r
-      → (m .kind ≡ 26 → ⊥)
+      → Settled table v m used source question (guard m) now after r
       → Visited table v before after r
-  plain-arm m roles source question guard r before now after used here named judges size f s other =
-      arm m roles source question guard r before now now after used here named judges size f
-      (kept-none used now (f .size)) s (λ e. simp (ne-eqb (m .kind) 26 other))
+  word-arm {Key} {kind} {roles} {source} {question} {r} {word} {m} {before} {now} {after} {used} guard named judges other size here is key
+      node f s =
+      let same : m ≡ nodeAt table n = node ∙ here in
+      let key-here : Key (nodeAt table n .kind) = rw (is ∙ ap (λ (m : Node). m .kind) here) at key in
+      let key-node : Key (m .kind) = rw (← same) at key-here in
+      arm m roles source question (guard m) r before now now after used same (named (m .kind) key-node)
+      (λ inside fits known. rw same (judges inside fits known key-here)) size f (kept-none used now (f .size)) s
+      (λ e. simp (ne-eqb (m .kind) 26 (other (m .kind) key-node)))
 
   -- a kind that is not known
   pub no-arm : (before : List ℕ) → length before ≡ allPlanes → kindKnown table n ≡ false → Visited table v before before 0

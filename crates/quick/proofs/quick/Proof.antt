@@ -8,7 +8,8 @@ use Rattle.visit.proofs.QuickLaws.{named-0, named-1, named-2, named-3, named-4,
 use Rattle.visit.proofs.QuickLaws.{named-17, named-18, named-19, named-20, named-21, named-22, named-24, named-25, named-26}
 use Rattle.visit.proofs.SettledLaws.{judges-0, judges-1, judges-2, judges-3, judges-4, judges-5, judges-6}
 use Rattle.visit.proofs.SettledLaws.{judges-17, judges-18, judges-19, judges-20, judges-21, judges-22, judges-24, judges-25, judges-26}
-use Rattle.quick.proofs.VisitLaws.{leave-arm, plain-arm, no-arm, other-as, other-either, other-below, called-below, operation-kind, unnamed-kind}
+use Rattle.quick.proofs.VisitLaws.{leave-arm, word-arm, no-arm, other-as, other-either, other-operation, called-below}
+use Rattle.quick.proofs.VisitLaws.{operation-kind, unnamed-kind}
 use borrow.Author.Needs.{needs}
 use Rattle.quick.proofs.quick.Statement.{statement}
 use Rattle.quick.proofs.quick.Tie as tie
@@ -69,9 +70,8 @@ fields-requires-6 c κs = search needs
 
 settled-requires-6 : tie.Need-settled-requires-6
 settled-requires-6 c κs =
-    let fields = c .before .before .before .fields6 in
     let given = c .before .before .before .before .before .before .before .before .before .before .pre .0 in
-    ((given .0, given .1, fields .ensures .size), (omega arith, λ used called. absurd (omega arith)))
+    ((given .0, given .1, c .before .before .before .fields6 .ensures .size), (omega arith, λ used called. absurd (omega arith)))
 
 unpacked-requires-7 : tie.Need-unpacked-requires-7
 unpacked-requires-7 c κs = search needs
@@ -81,9 +81,8 @@ fields-requires-7 c κs = search needs
 
 settled-requires-7 : tie.Need-settled-requires-7
 settled-requires-7 c κs =
-    let fields = c .before .before .before .fields7 in
     let given = c .before .before .before .before .before .before .before .before .before .before .pre .0 in
-    ((given .0, given .1, fields .ensures .size), (omega arith, λ used called. absurd (omega arith)))
+    ((given .0, given .1, c .before .before .before .fields7 .ensures .size), (omega arith, λ used called. absurd (omega arith)))
 
 unpacked-requires-8 : tie.Need-unpacked-requires-8
 unpacked-requires-8 c κs = search needs
@@ -93,9 +92,8 @@ fields-requires-8 c κs = search needs
 
 settled-requires-8 : tie.Need-settled-requires-8
 settled-requires-8 c κs =
-    let fields = c .before .before .before .fields8 in
     let given = c .before .before .before .before .before .before .before .before .before .before .pre .0 in
-    ((given .0, given .1, fields .ensures .size), (omega arith, λ used called. absurd (omega arith)))
+    ((given .0, given .1, c .before .before .before .fields8 .ensures .size), (omega arith, λ used called. absurd (omega arith)))
 
 unpacked-requires-9 : tie.Need-unpacked-requires-9
 unpacked-requires-9 c κs = search needs
@@ -105,9 +103,8 @@ fields-requires-9 c κs = search needs
 
 settled-requires-9 : tie.Need-settled-requires-9
 settled-requires-9 c κs =
-    let fields = c .before .before .before .fields9 in
     let given = c .before .before .before .before .before .before .before .before .before .before .pre .0 in
-    ((given .0, given .1, fields .ensures .size), (omega arith, λ used called. absurd (omega arith)))
+    ((given .0, given .1, c .before .before .before .fields9 .ensures .size), (omega arith, λ used called. absurd (omega arith)))
 
 unpacked-requires-10 : tie.Need-unpacked-requires-10
 unpacked-requires-10 c κs = search needs
@@ -117,9 +114,8 @@ fields-requires-10 c κs = search needs
 
 settled-requires-10 : tie.Need-settled-requires-10
 settled-requires-10 c κs =
-    let fields = c .before .before .before .fields10 in
     let given = c .before .before .before .before .before .before .before .before .before .before .pre .0 in
-    ((given .0, given .1, fields .ensures .size), (omega arith, λ used called. absurd (omega arith)))
+    ((given .0, given .1, c .before .before .before .fields10 .ensures .size), (omega arith, λ used called. absurd (omega arith)))
 
 unpacked-requires-11 : tie.Need-unpacked-requires-11
 unpacked-requires-11 c κs = search needs
@@ -141,9 +137,8 @@ fields-requires-12 c κs = search needs
 
 settled-requires-12 : tie.Need-settled-requires-12
 settled-requires-12 c κs =
-    let fields = c .before .before .before .fields12 in
     let given = c .before .before .before .before .before .before .before .before .before .before .pre .0 in
-    ((given .0, given .1, fields .ensures .size), (omega arith, λ used called. absurd (omega arith)))
+    ((given .0, given .1, c .before .before .before .fields12 .ensures .size), (omega arith, λ used called. absurd (omega arith)))
 
 unpacked-requires-13 : tie.Need-unpacked-requires-13
 unpacked-requires-13 c κs = search needs
@@ -153,9 +148,8 @@ fields-requires-13 c κs = search needs
 
 settled-requires-13 : tie.Need-settled-requires-13
 settled-requires-13 c κs =
-    let fields = c .before .before .before .fields13 in
     let given = c .before .before .before .before .before .before .before .before .before .before .pre .0 in
-    ((given .0, given .1, fields .ensures .size), (omega arith, λ used called. absurd (omega arith)))
+    ((given .0, given .1, c .before .before .before .fields13 .ensures .size), (omega arith, λ used called. absurd (omega arith)))
 
 unpacked-requires-14 : tie.Need-unpacked-requires-14
 unpacked-requires-14 c κs = search needs
@@ -165,9 +159,8 @@ fields-requires-14 c κs = search needs
 
 settled-requires-14 : tie.Need-settled-requires-14
 settled-requires-14 c κs =
-    let fields = c .before .before .before .fields14 in
     let given = c .before .before .before .before .before .before .before .before .before .before .pre .0 in
-    ((given .0, given .1, fields .ensures .size), (omega arith, λ used called. absurd (omega arith)))
+    ((given .0, given .1, c .before .before .before .fields14 .ensures .size), (omega arith, λ used called. absurd (omega arith)))
 
 unpacked-requires-15 : tie.Need-unpacked-requires-15
 unpacked-requires-15 c κs = search needs
@@ -180,7 +173,6 @@ note-leave-requires c κs = search needs
 
 settled-requires-15 : tie.Need-settled-requires-15
 settled-requires-15 c κs =
-    let fields = c .before .before .before .before .before .before .before .fields15 in
     let given = c .before .before .before .before .before .before .before .before .before .before .before .before .before .before .pre .0 in
     ((given .0, given .1, c .before .before .before .note-leave .ensures .0 .size), (omega arith, λ used called. absurd (omega arith)))
 
@@ -192,9 +184,8 @@ fields-requires-16 c κs = search needs
 
 settled-requires-16 : tie.Need-settled-requires-16
 settled-requires-16 c κs =
-    let fields = c .before .before .before .fields16 in
     let given = c .before .before .before .before .before .before .before .before .before .before .before .pre .0 in
-    ((given .0, given .1, fields .ensures .size), (omega arith, λ used called. absurd (omega arith)))
+    ((given .0, given .1, c .before .before .before .fields16 .ensures .size), (omega arith, λ used called. absurd (omega arith)))
 
 same-length : tie.Need-same-length
 same-length c = search needs
@@ -203,13 +194,10 @@ returns : tie.Need-returns
 returns c =
     let taken = c .before .before .before .before .before .before in
     let start = taken .before .before .before .before .before .before .before in
-    let node = taken .before .before .unpacked .ensures ∙ start .pre .1 in
-    let key = taken .before .before .before .match .keys1 in
-    let kind = taken .before .before .before .before .kind-of .ensures ∙ ap (λ (m : Node). m .kind) (start .pre .1) in
     let given = start .pre .0 in
-    plain-arm _ _ (given .0) (given .1) _ _ _ _ _ _ _ _ _ _ node (rw (kind, ← node) at (named-0 _ key))
-    (λ inside fits known. rw node (judges-0 _ _ _ _ (given .0) inside fits known (sym kind ∙ key)))
-    (given .2) (taken .fields .ensures) (c .before .before .settled .ensures) (rw (kind, ← node) at (other-as 0 refl key))
+    word-arm _ _ (given .0) (given .1) (λ m. m .a) named-0 (judges-0 _ _ _ _ (given .0)) (λ k. other-as 0 refl) (given .2)
+    (start .pre .1) (taken .before .before .before .before .kind-of .ensures) (taken .before .before .before .match .keys1)
+    (taken .before .before .unpacked .ensures) (taken .fields .ensures) (c .before .before .settled .ensures)
 
 same-length-2 : tie.Need-same-length-2
 same-length-2 c = search needs
@@ -218,13 +206,10 @@ returns-2 : tie.Need-returns-2
 returns-2 c =
     let taken = c .before .before .before .before .before .before in
     let start = taken .before .before .before .before .before .before .before in
-    let node = taken .before .before .unpacked2 .ensures ∙ start .pre .1 in
-    let key = taken .before .before .before .match .keys2 in
-    let kind = taken .before .before .before .before .kind-of .ensures ∙ ap (λ (m : Node). m .kind) (start .pre .1) in
     let given = start .pre .0 in
-    plain-arm _ _ (given .0) (given .1) _ _ _ _ _ _ _ _ _ _ node (rw (kind, ← node) at (named-1 _ key))
-    (λ inside fits known. rw node (judges-1 _ _ _ _ (given .0) inside fits known (sym kind ∙ key)))
-    (given .2) (taken .fields2 .ensures) (c .before .before .settled2 .ensures) (rw (kind, ← node) at (other-as 1 refl key))
+    word-arm _ _ (given .0) (given .1) (λ m. m .a) named-1 (judges-1 _ _ _ _ (given .0)) (λ k. other-as 1 refl) (given .2)
+    (start .pre .1) (taken .before .before .before .before .kind-of .ensures) (taken .before .before .before .match .keys2)
+    (taken .before .before .unpacked2 .ensures) (taken .fields2 .ensures) (c .before .before .settled2 .ensures)
 
 same-length-3 : tie.Need-same-length-3
 same-length-3 c = search needs
@@ -233,13 +218,10 @@ returns-3 : tie.Need-returns-3
 returns-3 c =
     let taken = c .before .before .before .before .before .before in
     let start = taken .before .before .before .before .before .before .before in
-    let node = taken .before .before .unpacked3 .ensures ∙ start .pre .1 in
-    let key = taken .before .before .before .match .keys3 in
-    let kind = taken .before .before .before .before .kind-of .ensures ∙ ap (λ (m : Node). m .kind) (start .pre .1) in
     let given = start .pre .0 in
-    plain-arm _ _ (given .0) (given .1) _ _ _ _ _ _ _ _ _ _ node (rw (kind, ← node) at (named-2 _ key))
-    (λ inside fits known. rw node (judges-2 _ _ _ _ (given .0) inside fits known (rw kind at key)))
-    (given .2) (taken .fields3 .ensures) (c .before .before .settled3 .ensures) (rw (kind, ← node) at (other-either 2 23 refl refl key))
+    word-arm _ _ (given .0) (given .1) (λ m. m .a) named-2 (judges-2 _ _ _ _ (given .0)) (λ k. other-either 2 23 refl refl) (given .2)
+    (start .pre .1) (taken .before .before .before .before .kind-of .ensures) (taken .before .before .before .match .keys3)
+    (taken .before .before .unpacked3 .ensures) (taken .fields3 .ensures) (c .before .before .settled3 .ensures)
 
 same-length-4 : tie.Need-same-length-4
 same-length-4 c = search needs
@@ -248,13 +230,10 @@ returns-4 : tie.Need-returns-4
 returns-4 c =
     let taken = c .before .before .before .before .before .before in
     let start = taken .before .before .before .before .before .before .before in
-    let node = taken .before .before .unpacked4 .ensures ∙ start .pre .1 in
-    let key = taken .before .before .before .match .keys4 in
-    let kind = taken .before .before .before .before .kind-of .ensures ∙ ap (λ (m : Node). m .kind) (start .pre .1) in
     let given = start .pre .0 in
-    plain-arm _ _ (given .0) (given .1) _ _ _ _ _ _ _ _ _ _ node (rw (kind, ← node) at (named-3 _ key))
-    (λ inside fits known. rw node (judges-3 _ _ _ _ (given .0) inside fits known (rw kind at key)))
-    (given .2) (taken .fields4 .ensures) (c .before .before .settled4 .ensures) (rw (kind, ← node) at (other-either 3 16 refl refl key))
+    word-arm _ _ (given .0) (given .1) (λ m. m .a) named-3 (judges-3 _ _ _ _ (given .0)) (λ k. other-either 3 16 refl refl) (given .2)
+    (start .pre .1) (taken .before .before .before .before .kind-of .ensures) (taken .before .before .before .match .keys4)
+    (taken .before .before .unpacked4 .ensures) (taken .fields4 .ensures) (c .before .before .settled4 .ensures)
 
 same-length-5 : tie.Need-same-length-5
 same-length-5 c = search needs
@@ -263,13 +242,10 @@ returns-5 : tie.Need-returns-5
 returns-5 c =
     let taken = c .before .before .before .before .before .before in
     let start = taken .before .before .before .before .before .before .before in
-    let node = taken .before .before .unpacked5 .ensures ∙ start .pre .1 in
-    let key = taken .before .before .before .match .keys5 in
-    let kind = taken .before .before .before .before .kind-of .ensures ∙ ap (λ (m : Node). m .kind) (start .pre .1) in
     let given = start .pre .0 in
-    plain-arm _ _ (given .0) (given .1) _ _ _ _ _ _ _ _ _ _ node (rw (kind, ← node) at (named-4 _ key))
-    (λ inside fits known. rw node (judges-4 _ _ _ _ (given .0) inside fits known (sym kind ∙ key)))
-    (given .2) (taken .fields5 .ensures) (c .before .before .settled5 .ensures) (rw (kind, ← node) at (other-as 4 refl key))
+    word-arm _ _ (given .0) (given .1) (λ m. m .a) named-4 (judges-4 _ _ _ _ (given .0)) (λ k. other-as 4 refl) (given .2)
+    (start .pre .1) (taken .before .before .before .before .kind-of .ensures) (taken .before .before .before .match .keys5)
+    (taken .before .before .unpacked5 .ensures) (taken .fields5 .ensures) (c .before .before .settled5 .ensures)
 
 same-length-6 : tie.Need-same-length-6
 same-length-6 c = search needs
@@ -278,13 +254,10 @@ returns-6 : tie.Need-returns-6
 returns-6 c =
     let taken = c .before .before .before .before .before .before in
     let start = taken .before .before .before .before .before .before .before in
-    let node = taken .before .before .unpacked6 .ensures ∙ start .pre .1 in
-    let key = taken .before .before .before .match .keys6 in
-    let kind = taken .before .before .before .before .kind-of .ensures ∙ ap (λ (m : Node). m .kind) (start .pre .1) in
     let given = start .pre .0 in
-    plain-arm _ _ (given .0) (given .1) _ _ _ _ _ _ _ _ _ _ node (rw (kind, ← node) at (named-5 _ key))
-    (λ inside fits known. rw node (judges-5 _ _ _ _ (given .0) inside fits known (sym kind ∙ key)))
-    (given .2) (taken .fields6 .ensures) (c .before .before .settled6 .ensures) (rw (kind, ← node) at (other-as 5 refl key))
+    word-arm _ _ (given .0) (given .1) (λ m. m .a) named-5 (judges-5 _ _ _ _ (given .0)) (λ k. other-as 5 refl) (given .2)
+    (start .pre .1) (taken .before .before .before .before .kind-of .ensures) (taken .before .before .before .match .keys6)
+    (taken .before .before .unpacked6 .ensures) (taken .fields6 .ensures) (c .before .before .settled6 .ensures)
 
 same-length-7 : tie.Need-same-length-7
 same-length-7 c = search needs
@@ -293,13 +266,10 @@ returns-7 : tie.Need-returns-7
 returns-7 c =
     let taken = c .before .before .before .before .before .before in
     let start = taken .before .before .before .before .before .before .before in
-    let node = taken .before .before .unpacked7 .ensures ∙ start .pre .1 in
-    let key = taken .before .before .before .match .keys7 in
-    let kind = taken .before .before .before .before .kind-of .ensures ∙ ap (λ (m : Node). m .kind) (start .pre .1) in
     let given = start .pre .0 in
-    plain-arm _ _ (given .0) (given .1) _ _ _ _ _ _ _ _ _ _ node (rw (kind, ← node) at (named-17 _ key))
-    (λ inside fits known. rw node (judges-17 _ _ _ _ (given .0) inside fits known (sym kind ∙ key)))
-    (given .2) (taken .fields7 .ensures) (c .before .before .settled7 .ensures) (rw (kind, ← node) at (other-as 17 refl key))
+    word-arm _ _ (given .0) (given .1) (λ m. m .b) named-17 (judges-17 _ _ _ _ (given .0)) (λ k. other-as 17 refl) (given .2)
+    (start .pre .1) (taken .before .before .before .before .kind-of .ensures) (taken .before .before .before .match .keys7)
+    (taken .before .before .unpacked7 .ensures) (taken .fields7 .ensures) (c .before .before .settled7 .ensures)
 
 same-length-8 : tie.Need-same-length-8
 same-length-8 c = search needs
@@ -308,13 +278,10 @@ returns-8 : tie.Need-returns-8
 returns-8 c =
     let taken = c .before .before .before .before .before .before in
     let start = taken .before .before .before .before .before .before .before in
-    let node = taken .before .before .unpacked8 .ensures ∙ start .pre .1 in
-    let key = taken .before .before .before .match .keys8 in
-    let kind = taken .before .before .before .before .kind-of .ensures ∙ ap (λ (m : Node). m .kind) (start .pre .1) in
     let given = start .pre .0 in
-    plain-arm _ _ (given .0) (given .1) _ _ _ _ _ _ _ _ _ _ node (rw (kind, ← node) at (named-18 _ key))
-    (λ inside fits known. rw node (judges-18 _ _ _ _ (given .0) inside fits known (sym kind ∙ key)))
-    (given .2) (taken .fields8 .ensures) (c .before .before .settled8 .ensures) (rw (kind, ← node) at (other-as 18 refl key))
+    word-arm _ _ (given .0) (given .1) (λ m. m .a) named-18 (judges-18 _ _ _ _ (given .0)) (λ k. other-as 18 refl) (given .2)
+    (start .pre .1) (taken .before .before .before .before .kind-of .ensures) (taken .before .before .before .match .keys8)
+    (taken .before .before .unpacked8 .ensures) (taken .fields8 .ensures) (c .before .before .settled8 .ensures)
 
 same-length-9 : tie.Need-same-length-9
 same-length-9 c = search needs
@@ -323,13 +290,10 @@ returns-9 : tie.Need-returns-9
 returns-9 c =
     let taken = c .before .before .before .before .before .before in
     let start = taken .before .before .before .before .before .before .before in
-    let node = taken .before .before .unpacked9 .ensures ∙ start .pre .1 in
-    let key = taken .before .before .before .match .keys9 in
-    let kind = taken .before .before .before .before .kind-of .ensures ∙ ap (λ (m : Node). m .kind) (start .pre .1) in
     let given = start .pre .0 in
-    plain-arm _ _ (given .0) (given .1) _ _ _ _ _ _ _ _ _ _ node (rw (kind, ← node) at (named-19 _ key))
-    (λ inside fits known. rw node (judges-19 _ _ _ _ (given .0) inside fits known (sym kind ∙ key)))
-    (given .2) (taken .fields9 .ensures) (c .before .before .settled9 .ensures) (rw (kind, ← node) at (other-as 19 refl key))
+    word-arm _ _ (given .0) (given .1) (λ m. m .a) named-19 (judges-19 _ _ _ _ (given .0)) (λ k. other-as 19 refl) (given .2)
+    (start .pre .1) (taken .before .before .before .before .kind-of .ensures) (taken .before .before .before .match .keys9)
+    (taken .before .before .unpacked9 .ensures) (taken .fields9 .ensures) (c .before .before .settled9 .ensures)
 
 same-length-10 : tie.Need-same-length-10
 same-length-10 c = search needs
@@ -338,13 +302,10 @@ returns-10 : tie.Need-returns-10
 returns-10 c =
     let taken = c .before .before .before .before .before .before in
     let start = taken .before .before .before .before .before .before .before in
-    let node = taken .before .before .unpacked10 .ensures ∙ start .pre .1 in
-    let key = taken .before .before .before .match .keys10 in
-    let kind = taken .before .before .before .before .kind-of .ensures ∙ ap (λ (m : Node). m .kind) (start .pre .1) in
     let given = start .pre .0 in
-    plain-arm _ _ (given .0) (given .1) _ _ _ _ _ _ _ _ _ _ node (rw (kind, ← node) at (named-20 _ key))
-    (λ inside fits known. rw node (judges-20 _ _ _ _ (given .0) inside fits known (sym kind ∙ key)))
-    (given .2) (taken .fields10 .ensures) (c .before .before .settled10 .ensures) (rw (kind, ← node) at (other-as 20 refl key))
+    word-arm _ _ (given .0) (given .1) (λ m. m .a) named-20 (judges-20 _ _ _ _ (given .0)) (λ k. other-as 20 refl) (given .2)
+    (start .pre .1) (taken .before .before .before .before .kind-of .ensures) (taken .before .before .before .match .keys10)
+    (taken .before .before .unpacked10 .ensures) (taken .fields10 .ensures) (c .before .before .settled10 .ensures)
 
 same-length-11 : tie.Need-same-length-11
 same-length-11 c = search needs
@@ -353,13 +314,10 @@ returns-11 : tie.Need-returns-11
 returns-11 c =
     let taken = c .before .before .before .before .before .before in
     let start = taken .before .before .before .before .before .before .before in
-    let node = taken .before .before .unpacked11 .ensures ∙ start .pre .1 in
-    let key = taken .before .before .before .match .keys11 in
-    let kind = taken .before .before .before .before .kind-of .ensures ∙ ap (λ (m : Node). m .kind) (start .pre .1) in
     let given = start .pre .0 in
-    plain-arm _ _ (given .0) (given .1) _ _ _ _ _ _ _ _ _ _ node (rw (kind, ← node) at (named-21 _ key))
-    (λ inside fits known. rw node (judges-21 _ _ _ _ (given .0) inside fits known (sym kind ∙ key)))
-    (given .2) (taken .fields11 .ensures) (c .before .before .settled11 .ensures) (rw (kind, ← node) at (other-as 21 refl key))
+    word-arm _ _ (given .0) (given .1) (λ m. m .a) named-21 (judges-21 _ _ _ _ (given .0)) (λ k. other-as 21 refl) (given .2)
+    (start .pre .1) (taken .before .before .before .before .kind-of .ensures) (taken .before .before .before .match .keys11)
+    (taken .before .before .unpacked11 .ensures) (taken .fields11 .ensures) (c .before .before .settled11 .ensures)
 
 same-length-12 : tie.Need-same-length-12
 same-length-12 c = search needs
@@ -368,13 +326,10 @@ returns-12 : tie.Need-returns-12
 returns-12 c =
     let taken = c .before .before .before .before .before .before in
     let start = taken .before .before .before .before .before .before .before in
-    let node = taken .before .before .unpacked12 .ensures ∙ start .pre .1 in
-    let key = taken .before .before .before .match .keys12 in
-    let kind = taken .before .before .before .before .kind-of .ensures ∙ ap (λ (m : Node). m .kind) (start .pre .1) in
     let given = start .pre .0 in
-    plain-arm _ _ (given .0) (given .1) _ _ _ _ _ _ _ _ _ _ node (rw (kind, ← node) at (named-22 _ key))
-    (λ inside fits known. rw node (judges-22 _ _ _ _ (given .0) inside fits known (sym kind ∙ key)))
-    (given .2) (taken .fields12 .ensures) (c .before .before .settled12 .ensures) (rw (kind, ← node) at (other-as 22 refl key))
+    word-arm _ _ (given .0) (given .1) (λ m. m .a) named-22 (judges-22 _ _ _ _ (given .0)) (λ k. other-as 22 refl) (given .2)
+    (start .pre .1) (taken .before .before .before .before .kind-of .ensures) (taken .before .before .before .match .keys12)
+    (taken .before .before .unpacked12 .ensures) (taken .fields12 .ensures) (c .before .before .settled12 .ensures)
 
 same-length-13 : tie.Need-same-length-13
 same-length-13 c = search needs
@@ -383,13 +338,10 @@ returns-13 : tie.Need-returns-13
 returns-13 c =
     let taken = c .before .before .before .before .before .before in
     let start = taken .before .before .before .before .before .before .before in
-    let node = taken .before .before .unpacked13 .ensures ∙ start .pre .1 in
-    let key = taken .before .before .before .match .keys13 in
-    let kind = taken .before .before .before .before .kind-of .ensures ∙ ap (λ (m : Node). m .kind) (start .pre .1) in
     let given = start .pre .0 in
-    plain-arm _ _ (given .0) (given .1) _ _ _ _ _ _ _ _ _ _ node (rw (kind, ← node) at (named-24 _ key))
-    (λ inside fits known. rw node (judges-24 _ _ _ _ (given .0) inside fits known (sym kind ∙ key)))
-    (given .2) (taken .fields13 .ensures) (c .before .before .settled13 .ensures) (rw (kind, ← node) at (other-as 24 refl key))
+    word-arm _ _ (given .0) (given .1) (λ m. m .c) named-24 (judges-24 _ _ _ _ (given .0)) (λ k. other-as 24 refl) (given .2)
+    (start .pre .1) (taken .before .before .before .before .kind-of .ensures) (taken .before .before .before .match .keys13)
+    (taken .before .before .unpacked13 .ensures) (taken .fields13 .ensures) (c .before .before .settled13 .ensures)
 
 same-length-14 : tie.Need-same-length-14
 same-length-14 c = search needs
@@ -398,13 +350,10 @@ returns-14 : tie.Need-returns-14
 returns-14 c =
     let taken = c .before .before .before .before .before .before in
     let start = taken .before .before .before .before .before .before .before in
-    let node = taken .before .before .unpacked14 .ensures ∙ start .pre .1 in
-    let key = taken .before .before .before .match .keys14 in
-    let kind = taken .before .before .before .before .kind-of .ensures ∙ ap (λ (m : Node). m .kind) (start .pre .1) in
     let given = start .pre .0 in
-    plain-arm _ _ (given .0) (given .1) _ _ _ _ _ _ _ _ _ _ node (rw (kind, ← node) at (named-25 _ key))
-    (λ inside fits known. rw node (judges-25 _ _ _ _ (given .0) inside fits known (sym kind ∙ key)))
-    (given .2) (taken .fields14 .ensures) (c .before .before .settled14 .ensures) (rw (kind, ← node) at (other-as 25 refl key))
+    word-arm _ _ (given .0) (given .1) (λ m. m .a) named-25 (judges-25 _ _ _ _ (given .0)) (λ k. other-as 25 refl) (given .2)
+    (start .pre .1) (taken .before .before .before .before .kind-of .ensures) (taken .before .before .before .match .keys14)
+    (taken .before .before .unpacked14 .ensures) (taken .fields14 .ensures) (c .before .before .settled14 .ensures)
 
 same-length-15 : tie.Need-same-length-15
 same-length-15 c = search needs
@@ -430,18 +379,15 @@ returns-16 : tie.Need-returns-16
 returns-16 c =
     let taken = c .before .before .before .before .before .before in
     let start = taken .before .before .before .before .before .before .before .before in
-    let node = taken .before .before .unpacked16 .ensures ∙ start .pre .1 in
-    let low = taken .before .before .before .if1 .taken in
+    let given = start .pre .0 in
     let rest = taken .before .before .before .before .match .rest in
     let first = rest .0 .0 .0 .0 .0 .0 .0 .0 .0 in
     let key =
-    operation-kind (first .0 .0 .0 .0 .0 .1) (first .0 .0 .0 .0 .1) (first .0 .0 .0 .1) (first .0 .0 .1) (first .0 .1) (first .1) low in
-    let kind = taken .before .before .before .before .before .kind-of .ensures ∙ ap (λ (m : Node). m .kind) (start .pre .1) in
-    let given = start .pre .0 in
-    plain-arm _ _ (given .0) (given .1) _ _ _ _ _ _ _ _ _ _ node (rw (kind, ← node) at (named-6 _ key))
-    (λ inside fits known. rw node (judges-6 _ _ _ _ (given .0) inside fits known (rw kind at key)))
-    (given .2) (taken .fields16 .ensures) (c .before .before .settled16 .ensures)
-    (rw (kind, ← node) at (other-below low))
+    operation-kind (first .0 .0 .0 .0 .0 .1) (first .0 .0 .0 .0 .1) (first .0 .0 .0 .1) (first .0 .0 .1) (first .0 .1) (first .1)
+    (taken .before .before .before .if1 .taken) in
+    word-arm _ _ (given .0) (given .1) (λ m. m .a) named-6 (judges-6 _ _ _ _ (given .0)) (λ k. other-operation) (given .2)
+    (start .pre .1) (taken .before .before .before .before .before .kind-of .ensures) key
+    (taken .before .before .unpacked16 .ensures) (taken .fields16 .ensures) (c .before .before .settled16 .ensures)
 
 returns-17 : tie.Need-returns-17
 unfolding kindKnown isExpression isStatement
