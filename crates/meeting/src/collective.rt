@@ -56,7 +56,8 @@ pub fn arrival_of(
 
 // "An exchange puts bank i's value into slot i of every roster": of the one that it names, at every bank.
 fn gather(words: &mut [u32], roll: &[u32], count: usize, area: usize)
-    requires { ⌜ (length (now words) ≡ processWords) × (length (now roll) ≡ arrivalSize * count) × (count ≤ mostProcesses) × (area < gatheredAreas) ⌝ }
+    requires { ⌜ (length (now words) ≡ processWords) × (length (now roll) ≡ arrivalSize * count)
+        × (count ≤ mostProcesses) × (area < gatheredAreas) ⌝ }
     ensures { λ _. ⌜ now (words .exit) ≡ gatheredFrom (now (roll .entry)) area count (now (words .entry)) ⌝ }
 {
     let mut i = 0;

@@ -165,8 +165,10 @@ evaluate-slot-requires : (t : ℕ) → evaluate-lts.Need-slot-requires (callees 
 evaluate-slot-requires t c κs =
     let read = c .before .before .before .before .before .before in
     let given = start t read .pre .1 .0 in
-    let m = read .node-at .result in
-    (given .sized, given .few, slot-fields (table t read) (shape t read) (start t read .args .n) m (read .node-at .ensures) (c .before .if3 .taken) .1)
+    let fields =
+    slot-fields (table t read) (shape t read) (start t read .args .n) (read .node-at .result) (read .node-at .ensures)
+    (c .before .if3 .taken) in
+    (given .sized, given .few, fields .1)
 
 evaluate-returns-3 : (t : ℕ) → evaluate-lts.Need-returns-3 (callees t) (evaluate-at t) evaluate.Post
 unfolding valueOf
