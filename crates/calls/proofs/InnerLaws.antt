@@ -12,14 +12,14 @@ use Rattle.rules.specs.declared.Node.{Node}
 use Rattle.rules.specs.Table.{variables, nodeAt, statementOf, expressionAt, statementAt}
 use Rattle.rules.specs.Table.{Expression, constant, variable, ownNumber, processCount, door, slot, operation}
 use Rattle.rules.specs.Table.{Statement, nothing, assign, sequence, branch, loop, call, latch, collective, leave}
-use Rattle.rules.specs.Table.{Collective, barrier, broadcast, exchange, gatheredAreas}
+use Rattle.rules.specs.Table.{Collective, barrier, broadcast, exchange}
 use Rattle.rules.specs.WellFormed.{isExpression, expressionPart, statementPart, partsAt, occurrences}
 use Rattle.rules.specs.WellFormed.{expressionFits, collectiveFits, statementFits, nodeFits}
 use Rattle.rules.specs.WellFormed.{expressionParts, collectiveParts, statementParts}
 use Rattle.rules.proofs.AnswerLaws.{both-left, both-right}
 use Rattle.rules.proofs.ChoiceLaws.{bool-cases}
 use Rattle.rules.proofs.KindLaws.{by-kind}
-use Rattle.rules.proofs.ValueLaws.{expression-part-sort}
+use Rattle.rules.proofs.ValueLaws.{expression-part-sort, area-fields}
 use Rattle.table.proofs.TestLaws.{never}
 use Rattle.table.proofs.UseLaws.{occurrences-append}
 use Rattle.calls.specs.Walk.{innerStatements, mayCall, callers, callsBelow}
@@ -77,7 +77,7 @@ module _ (table : List ℕ) (n k : ℕ) (s : mayCall table k ≡ true) where
   no-part ownNumber fits h = h
   no-part processCount fits h = h
   no-part (door a) fits h = past a [] fits h
-  no-part (slot a r) fits h = past a [] (both-left (E a) (ltb r gatheredAreas) fits) h
+  no-part (slot a r) fits h = past a [] (area-fields table n a r fits .0) h
   no-part (operation o a b) fits h =
       past b [] (both-right (E a) (E b) fits) (past a (b ∷ []) (both-left (E a) (E b) fits) h)
 
@@ -87,7 +87,7 @@ module _ (table : List ℕ) (n k : ℕ) (s : mayCall table k ≡ true) where
   no-meeting (broadcast a b c) fits h =
       let v = ltb a (variables table) in
       past c [] (both-right (v && E b) (E c) fits) (past b (c ∷ []) (both-right v (E b) (both-left (v && E b) (E c) fits)) h)
-  no-meeting (exchange a r) fits h = past a [] (both-left (E a) (ltb r gatheredAreas) fits) h
+  no-meeting (exchange a r) fits h = past a [] (area-fields table n a r fits .0) h
 
   part-inner : (m : Statement) → statementFits table n m ≡ true → In k (statementParts m) → In k (innerStatements m)
   unfolding statementFits statementParts innerStatements

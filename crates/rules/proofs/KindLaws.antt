@@ -18,6 +18,7 @@ use Rattle.rules.specs.Table.{Collective, barrier, broadcast, exchange, 
 use Rattle.rules.specs.WellFormed.{expressionPart, statementPart, expressionFits, collectiveFits, statementFits}
 use Rattle.rules.proofs.AnswerLaws.{both-left, both-right}
 use Rattle.rules.proofs.Formed.{Formed}
+use Rattle.rules.proofs.ValueLaws.{area-fields}
 
 -- the operator of kind 6 + j
 abbrev pub operatorAt : ℕ → Operator
@@ -147,21 +148,13 @@ module _ (table : List ℕ) (formed : Formed table) (n : ℕ) (m : Node) (here :
   unfolding expressionFits
   variable-field e = ltb-true (m .a) (variables table) (expression-fits (variable-of m e))
 
-  -- the fields of the two kinds that name an area
-  in-area : (expressionPart table n (m .a) && ltb (m .b) gatheredAreas) ≡ true
-      → (expressionPart table n (m .a) ≡ true) × (m .b < gatheredAreas)
-  in-area all =
-      let part = expressionPart table n (m .a) in
-      let low = ltb (m .b) gatheredAreas in
-      (both-left part low all, ltb-true (m .b) gatheredAreas (both-right part low all))
-
   operands : 6 ≤ m .kind → m .kind ≤ 12 → (expressionPart table n (m .a) && expressionPart table n (m .b)) ≡ true
   unfolding expressionFits
   operands h k = expression-fits (operation-of m h k)
 
   pub slot-fields : m .kind ≡ 5 → (expressionPart table n (m .a) ≡ true) × (m .b < gatheredAreas)
   unfolding expressionFits
-  slot-fields e = in-area (expression-fits (slot-of m e))
+  slot-fields e = area-fields table n (m .a) (m .b) (expression-fits (slot-of m e))
 
   pub first-part : 4 ≤ m .kind → m .kind ≤ 12 → expressionPart table n (m .a) ≡ true
   unfolding expressionFits
@@ -245,4 +238,4 @@ module _ (table : List ℕ) (formed : Formed table) (n : ℕ) (m : Node) (here :
 
   pub exchange-fields : m .kind ≡ 25 → (expressionPart table n (m .a) ≡ true) × (m .b < gatheredAreas)
   unfolding statementFits collectiveFits
-  exchange-fields e = in-area (statement-fits (exchange-of m e))
+  exchange-fields e = area-fields table n (m .a) (m .b) (statement-fits (exchange-of m e))

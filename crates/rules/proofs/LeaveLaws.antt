@@ -10,7 +10,7 @@ use native.Mathlib.Omega.{arith}
 use lib.Dec.{ltb}
 use borrow.Author.Tests.{leb-true, ne-eqb}
 use Rattle.rules.specs.Judgement.{holdsLeave}
-use Rattle.rules.specs.Table.{variables, procedures, nodes, body, nodeAt, statementOf, expressionAt, statementAt, isLeave, gatheredAreas}
+use Rattle.rules.specs.Table.{variables, procedures, nodes, body, nodeAt, statementOf, expressionAt, statementAt, isLeave}
 use Rattle.rules.specs.Table.{Expression, constant, variable, ownNumber, processCount, door, slot, operation}
 use Rattle.rules.specs.Table.{Statement, nothing, assign, sequence, branch, loop, call, latch, collective, leave}
 use Rattle.rules.specs.Table.{Collective, barrier, broadcast, exchange}
@@ -21,7 +21,7 @@ use Rattle.rules.proofs.AnswerLaws.{both-left, both-right}
 use Rattle.rules.proofs.Formed.{Formed, Enclosed, statement-past}
 use Rattle.rules.proofs.LoopLaws.{In, OpenPart, counted-append, part-low, openly-self, openly-part}
 use Rattle.rules.proofs.LoopLaws.{named-below, nearest-part, nearest-body}
-use Rattle.rules.proofs.ValueLaws.{expression-part-sort}
+use Rattle.rules.proofs.ValueLaws.{expression-part-sort, area-fields}
 
 in-append : (xs ys : List ℕ) (a : ℕ) → In a (xs ++ ys) → In a xs ⊎ In a ys
 in-append [] ys a i = inr i
@@ -61,8 +61,7 @@ module _ (table : List ℕ) (n : ℕ) where
   expression-sort processCount a h i = absurd i
   expression-sort (door x) a h (inl e) = rw e (expression-part-sort table n x h)
   expression-sort (door x) a h (inr i) = absurd i
-  expression-sort (slot x r) a h (inl e) =
-      rw e (expression-part-sort table n x (both-left (expressionPart table n x) (ltb r gatheredAreas) h))
+  expression-sort (slot x r) a h (inl e) = rw e (expression-part-sort table n x (area-fields table n x r h .0))
   expression-sort (slot x r) a h (inr i) = absurd i
   expression-sort (operation o x y) a h (inl e) =
       rw e (expression-part-sort table n x (both-left (expressionPart table n x) (expressionPart table n y) h))
@@ -84,8 +83,7 @@ module _ (table : List ℕ) (n : ℕ) where
       (expression-part-sort table n z
       (both-right (ltb x (variables table) && expressionPart table n y) (expressionPart table n z) h))
   collective-sort (broadcast x y z) a h (inr (inr i)) = absurd i
-  collective-sort (exchange x r) a h (inl e) =
-      rw e (expression-part-sort table n x (both-left (expressionPart table n x) (ltb r gatheredAreas) h))
+  collective-sort (exchange x r) a h (inl e) = rw e (expression-part-sort table n x (area-fields table n x r h .0))
   collective-sort (exchange x r) a h (inr i) = absurd i
 
   -- a part of a statement is an expression, stands in the same while, or is a while's body

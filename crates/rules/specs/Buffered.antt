@@ -1,4 +1,4 @@
--- "Exchange without the temporary": an exchange with one, a buffer that takes the values of all processes before any gathered word
+-- "Exchange without the temporary": an exchange with one, a buffer that takes the values of all processes before any slot
 -- is written, and the step that uses it. `SameAsBuffered` says that this step is `stepped`; nothing else cites this file.
 use mathlib.Core.Bool.{cond}
 use mathlib.Core.List.{List}
@@ -21,7 +21,7 @@ use Rattle.rules.specs.Table.{Collective, barrier, broadcast, exchange, 
 unfoldable pub buffer : List ℕ → ℕ → List ℕ
 buffer roll count = below (λ earlier p. arrivalValue roll p) count
 
--- the values are gathered first, then written into each process's gathered words; the other collectives have no buffer
+-- the values are gathered first, then written into the area named, process by process; the other collectives have no buffer
 unfoldable pub bufferedState : List ℕ → ℕ → Collective → List ℕ → List ℕ
 bufferedState roll count barrier state = completedState roll count barrier state
 bufferedState roll count (broadcast a b c) state = completedState roll count (broadcast a b c) state
