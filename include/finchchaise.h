@@ -36,7 +36,7 @@ enum {
     FC_MOST_TABLE_BYTES = 1096,
     FC_MOST_PROCESSES = 16,
     FC_ROLL_WORDS = 4,
-    FC_SCRATCH_WORDS = 24
+    FC_SCRATCH_WORDS = 32
 };
 
 /*

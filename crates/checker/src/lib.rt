@@ -1,4 +1,4 @@
-// The checker: question 1, then 2 to 12, 26 and 13 to 17 in one sweep over lent scratch.
+// The checker: question 1, then 2 to 12, 26 and 13 to 17 over lent scratch.
 ghost use mathlib.Core.Path.{_≡_};
 ghost use lib.ListN.{length};
 ghost use Rattle.rules.specs.Acceptance.{scratchWords, judged, checked, checkedScratch};
@@ -6,17 +6,17 @@ ghost use Rattle.rules.specs.Answers.{_then_};
 ghost use Rattle.rules.specs.WellFormed.{wellFormed};
 use rules::Verdict;
 use rules::layout::SCRATCH_WORDS;
-use sweep::accepted;
+use switches::answer;
 use table::marks::clear;
 use table::shape::refused;
 
-// Questions 2 to 12, 26 and 13 to 17. The words, which may hold anything before, are the planes of the sweep.
+// Questions 2 to 12, 26 and 13 to 17. The words, which may hold anything before, are the planes.
 fn answer_in(table: &[u8], planes: &mut [u32]) -> Verdict
     requires { ⌜ length (now planes) ≡ scratchWords ⌝ }
     ensures { λ r. ⌜ r ≡ (wellFormed (now (table .entry)) then judged (now (table .entry))) ⌝ }
 {
     clear(planes);
-    accepted(table, planes)
+    answer(table, planes)
 }
 
 pub fn check(table: &[u8], scratch: &mut [u32]) -> Verdict

@@ -30,17 +30,18 @@ plain table m no18 no19 no26 =
     (λ e. so) (λ e. so) (λ e. absurd (no26 e)) so
 
 module _ (table : List ℕ) (formed : Formed table) where
-  pub holds-at : (n : ℕ)
-      → holdsLeave table n ≡ (isLeave (statementAt table n) || anyOf (holdsLeave table) (openParts (statementAt table n)))
-  unfolding holdsLeave
-  holds-at n = openly-at table formed (λ k. isLeave (statementAt table k)) n
+  module _ (reading : ℕ → Statement) where
+    pub holds-at : (n : ℕ)
+        → holdsLeave table reading n ≡ (isLeave (reading n) || anyOf (holdsLeave table reading) (openParts (statementAt table n)))
+    unfolding holdsLeave
+    holds-at n = openly-at table formed (λ k. isLeave (reading k)) n
 
-  pub left-at : (n : ℕ)
-      → leftLocally table n
-      ≡ ((localIf table (statementAt table n) && holdsLeave table n)
-      || anyOf (leftLocally table) (openParts (statementAt table n)))
-  unfolding leftLocally
-  left-at n = openly-at table formed (λ k. localIf table (statementAt table k) && holdsLeave table k) n
+    pub left-at : (n : ℕ)
+        → leftLocally table reading n
+        ≡ ((localIf table (reading n) && holdsLeave table reading n)
+        || anyOf (leftLocally table reading) (openParts (statementAt table n)))
+    unfolding leftLocally
+    left-at n = openly-at table formed (λ k. localIf table (reading k) && holdsLeave table reading k) n
 
   -- a table without leaves
   module _ (none : (k : ℕ) → k < nodes table → nodeAt table k .kind ≡ 26 → ⊥) where
@@ -52,23 +53,23 @@ module _ (table : List ℕ) (formed : Formed table) where
           | no m ↦ never (sym leave ∙ ap isLeave (statement-past table (formed .sized) k (omega arith)))
         ]
 
-    pub none-held : (n : ℕ) → holdsLeave table n ≡ false
+    pub none-held : (n : ℕ) → holdsLeave table (statementAt table) n ≡ false
     unfolding holdsLeave
     none-held n =
         ⊎-elim
-        (λ (e : holdsLeave table n ≡ true).
+        (λ (e : holdsLeave table (statementAt table) n ≡ true).
         absurd (by-open table formed (λ k. isLeave (statementAt table k)) (λ k. ⊥) no-statement (λ k a i h. h) n e))
-        (λ (e : holdsLeave table n ≡ false). e)
-        (bool-cases (holdsLeave table n))
+        (λ (e : holdsLeave table (statementAt table) n ≡ false). e)
+        (bool-cases (holdsLeave table (statementAt table) n))
 
-    pub none-left : (n : ℕ) → leftLocally table n ≡ false
+    pub none-left : (n : ℕ) → leftLocally table (statementAt table) n ≡ false
     unfolding leftLocally
     none-left n =
         ⊎-elim
-        (λ (e : leftLocally table n ≡ true).
+        (λ (e : leftLocally table (statementAt table) n ≡ true).
         absurd
-        (by-open table formed (λ k. localIf table (statementAt table k) && holdsLeave table k) (λ k. ⊥)
-        (λ k h. never (sym (both-right (localIf table (statementAt table k)) (holdsLeave table k) h) ∙ none-held k))
+        (by-open table formed (λ k. localIf table (statementAt table k) && holdsLeave table (statementAt table) k) (λ k. ⊥)
+        (λ k h. never (sym (both-right (localIf table (statementAt table k)) (holdsLeave table (statementAt table) k) h) ∙ none-held k))
         (λ k a i h. h) n e))
-        (λ (e : leftLocally table n ≡ false). e)
-        (bool-cases (leftLocally table n))
+        (λ (e : leftLocally table (statementAt table) n ≡ false). e)
+        (bool-cases (leftLocally table (statementAt table) n))

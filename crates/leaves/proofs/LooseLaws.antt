@@ -28,12 +28,12 @@ module _ (table : List ℕ) (n : ℕ) where
   enclosed-leave e = rw (leave-of (nodeAt table n) e)
 
 -- no body holds a leave that stands in no while
-pub none-loose : (table leaves : List ℕ) → Formed table → HeldTo table (nodes table) leaves
+pub none-loose : (table leaves : List ℕ) → Formed table → HeldTo table (statementAt table) (nodes table) leaves
     → allBelow (λ p. not (bitAt leaves (body table p % 256))) (procedures table) ≡ true
     → nodes table ≡ firstFailing (leaveEnclosed table) (nodes table)
 unfolding statementAt
 none-loose table leaves formed held shut =
-    let closed : (p : ℕ) → p < procedures table → holdsLeave table (body table p) ≡ false =
+    let closed : (p : ℕ) → p < procedures table → holdsLeave table (statementAt table) (body table p) ≡ false =
     λ p l.
     let own : body table p % 256 ≡ body table p = omega (arith, formed .body-below p l, formed .nodes-high) in
     sym (held .known (body table p) (formed .body-below p l))

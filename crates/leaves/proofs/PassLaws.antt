@@ -1,7 +1,7 @@
 -- The pass over the nodes: what is kept of a node by its kind, and of a table without leaves.
 use mathlib.Core.Bool.{Bool, true, false, cond, not, _&&_, _||_, or-false}
 use mathlib.Core.List.{List, [], _∷_}
-use mathlib.Core.Logic.{⊎-elim}
+use mathlib.Core.Logic.{_⊎_, ⊎-elim}
 use mathlib.Core.Path.{_≡_, refl, sym, _∙_, ap}
 use Prim.Native.Nat.{ℕ, zero, suc, _+_, _/_, _%_, _^_, _≤_, _<_, min}
 use native.Mathlib.Nat.{zero-div}
@@ -11,25 +11,26 @@ use lib.ListN.{length, getD, replicate, length-replicate}
 use borrow.Author.Tests.{ltb-true, eqb-true, eqb-false, ne-eqb}
 use Rattle.rules.specs.declared.Node.{Node}
 use Rattle.rules.specs.Choice.{allBelow}
-use Rattle.rules.specs.Judgement.{single, effect, holdsLeave, localIf, leftLocally}
-use Rattle.rules.specs.Table.{nodes, nodeAt, statementAt, isLeave, loop}
+use Rattle.rules.specs.Judgement.{single, effectOf, effect, holdsLeave, localIf, leftLocally}
+use Rattle.rules.specs.Table.{nodes, nodeAt, statementAt, isLeave, Statement, nothing, loop}
 use Rattle.rules.specs.WellFormed.{isExpression, isStatement, expressionPart, statementPart, openParts}
 use Rattle.rules.proofs.AnswerLaws.{both-left, both-right}
 use Rattle.rules.proofs.ChoiceLaws.{bool-cases, all-at}
 use Rattle.rules.proofs.Formed.{Formed}
-use Rattle.rules.proofs.KindLaws.{sequence-of, branch-of, leave-of, statement-here, sequence-fields, branch-fields, loop-fields}
+use Rattle.rules.proofs.KindLaws.{sequence-of, branch-of, loop-of, leave-of, statement-here, sequence-fields, branch-fields, loop-fields}
+use Rattle.rules.proofs.ValueLaws.{effect-here}
 use Rattle.table.specs.Marks.{hasBit, bitAt, withBit}
 use borrow.Rule.Slice.PartMut.{midOf, putMid}
-use Rattle.table.proofs.BitLaws.{length-withBit, cleared}
-use Rattle.visit.specs.Facts.{PlaneTo, FactsTo, NotedTo}
+use Rattle.table.proofs.BitLaws.{length-withBit, cleared, none-set}
+use Rattle.visit.specs.Facts.{Reading, PlaneTo, FactsTo, NotedTo}
 use Rattle.visit.specs.Fields.{factsPlane, leavesPlane, leavesFrom, planeWords, allPlanes}
 use Rattle.visit.specs.Least.{none, code, failure, leastBelow}
-use Rattle.visit.proofs.FactLaws.{plane-none, plane-more, fact-expression, fact-statement}
+use Rattle.visit.proofs.FactLaws.{earlier-of, last-of, as-it-is, plane-none, plane-more, fact-expression, fact-statement}
 use Rattle.visit.proofs.LeastLaws.{least-more}
 use Rattle.visit.proofs.PlaneLaws.{used-length, leaves-length, leaves-lent, used-put-used, facts-put-used, leaves-put-used, length-put-used}
 use Rattle.visit.proofs.PlaneLaws.{used-put-leaves, facts-put-leaves, leaves-put-leaves, length-put-leaves}
-use Rattle.leaves.specs.Leaves.{leftPlane, HeldTo, LeftTo, leftCode, eitherBit, Joined, NodePassed, PassedTo, LeavesPassed}
-use Rattle.leaves.proofs.HeldLaws.{plain, holds-at, left-at, none-held, none-left}
+use Rattle.leaves.specs.Leaves.{leftPlane, HeldTo, LeftTo, leftCode, eitherBit, Joined, NodePassed, NodesPassed, Cleared, PassedTo, LeavesPassed}
+use Rattle.leaves.proofs.HeldLaws.{Plain, plain, holds-at, left-at, none-held, none-left}
 
 -- a part lies below the node that names it, and is of its sort
 part : (n a : ℕ) (sort : Bool) → (ltb a n && sort) ≡ true → (a < n) × (sort ≡ true)
@@ -80,100 +81,117 @@ module _ (table : List ℕ) (formed : Formed table) (n : ℕ) (low : n < nodes t
   few : n < 256
   few = omega (arith, formed .nodes-high)
 
-  unruled : (m .kind ≡ 20 → ⊥) → none ≡ leftCode table n
+  unruled : (counts : ℕ → Statement) → (m .kind ≡ 20 → ⊥) → none ≡ leftCode table counts n
   unfolding leftCode
-  unruled other = simp (ne-eqb (m .kind) 20 other)
+  unruled counts other = simp (ne-eqb (m .kind) 20 other)
 
   -- from the bits that are set
   by-bits : (held left : Bool) (r : ℕ)
       → leavesPlane after ≡ cond held (withBit (leavesPlane planes) n) (leavesPlane planes)
       → leftPlane after ≡ cond left (withBit (leftPlane planes) n) (leftPlane planes)
-      → (HeldTo table n (leavesPlane planes) → held ≡ holdsLeave table n)
-      → (HeldTo table n (leavesPlane planes) → FactsTo table (nodes table) (factsPlane planes) → LeftTo table n (leftPlane planes)
-      → (left ≡ leftLocally table n) × (r ≡ leftCode table n))
+      → ((reading : Reading table n (n + 1)) → HeldTo table (reading .counts) n (leavesPlane planes)
+      → held ≡ holdsLeave table (reading .counts) n)
+      → ((reading : Reading table n (n + 1)) → HeldTo table (reading .counts) n (leavesPlane planes)
+      → FactsTo table (reading .counts) (nodes table) (factsPlane planes) → LeftTo table (reading .counts) n (leftPlane planes)
+      → (left ≡ leftLocally table (reading .counts) n) × (r ≡ leftCode table (reading .counts) n))
       → NodePassed table n planes after r
   by-bits held left r made-held made-left is-held is-left =
       record {
         size = size;
         facts = facts-same;
-        held = λ known.
-            plane-more (holdsLeave table) n (leavesPlane planes) (leavesPlane after) few known
-            (rw (← is-held known) made-held);
-        left = λ holding facts known.
-            let so = is-left holding facts known in (
-              plane-more (leftLocally table) n (leftPlane planes) (leftPlane after) few known (rw (← so .0) made-left),
+        held = λ reading known.
+            plane-more (holdsLeave table (reading .counts)) n (leavesPlane planes) (leavesPlane after) few known
+            (rw (← is-held reading known) made-held);
+        left = λ reading holding facts known.
+            let so = is-left reading holding facts known in (
+              plane-more (leftLocally table (reading .counts)) n (leftPlane planes) (leftPlane after) few known (rw (← so .0) made-left),
               so .1,
             );
       }
 
   -- where nothing is set
-  shut : isLeave (statementAt table n) ≡ false → openParts (statementAt table n) ≡ [] → localIf table (statementAt table n) ≡ false
-      → (holdsLeave table n ≡ false) × (leftLocally table n ≡ false)
-  shut free closed single = (holds-at table formed n ∙ simp (free, closed), left-at table formed n ∙ simp (single, closed))
+  shut : Plain table (statementAt table n) → (reading : Reading table n (n + 1))
+      → (holdsLeave table (reading .counts) n ≡ false) × (leftLocally table (reading .counts) n ≡ false)
+  shut (free, closed, single) reading = (
+    holds-at table formed (reading .counts) n ∙ simp (as-it-is reading, free, closed),
+    left-at table formed (reading .counts) n ∙ simp (as-it-is reading, single, closed),
+  )
 
   pub pass-other : after ≡ planes → (m .kind ≡ 18 → ⊥) → (m .kind ≡ 19 → ⊥) → (m .kind ≡ 20 → ⊥) → (m .kind ≡ 26 → ⊥)
       → NodePassed table n planes after none
   unfolding statementAt
   pass-other same no18 no19 no20 no26 =
-      let (free, closed, single) = plain table m no18 no19 no26 in
-      let (unheld, unleft) = shut free closed single in
-      by-bits false false none (ap leavesPlane same) (ap leftPlane same) (λ known. sym unheld)
-      (λ holding facts known. (sym unleft, unruled no20))
+      let closed = plain table m no18 no19 no26 in
+      by-bits false false none (ap leavesPlane same) (ap leftPlane same) (λ reading known. sym (shut closed reading .0))
+      (λ reading holding facts known. (sym (shut closed reading .1), unruled (reading .counts) no20))
 
   pub pass-leave : m .kind ≡ 26 → leavesPlane after ≡ withBit (leavesPlane planes) n → leftPlane after ≡ leftPlane planes
       → NodePassed table n planes after none
   unfolding statementAt openParts localIf
   pass-leave is made same =
       let s = leave-of m is in
-      by-bits true false none made same (λ known. sym (holds-at table formed n ∙ rw s))
-      (λ holding facts known. (sym (left-at table formed n ∙ rw s), unruled (omega arith)))
+      by-bits true false none made same (λ reading known. sym (holds-at table formed (reading .counts) n ∙ rw (as-it-is reading, s)))
+      (λ reading holding facts known. (
+        sym (left-at table formed (reading .counts) n ∙ rw (as-it-is reading, s)),
+        unruled (reading .counts) (omega arith),
+      ))
 
   pub pass-loop : {node : Node} → node ≡ m → m .kind ≡ 20 → after ≡ planes → (r : ℕ)
       → r ≡ cond (bitAt (leftPlane planes) (node .b % 256) && bitAt (factsPlane planes) (node .b % 256)) (code 16 n) none
       → NodePassed table n planes after r
-  unfolding statementPart statementAt leftCode
+  unfolding statementPart statementAt leftCode effectOf
   pass-loop here is same r answer =
-      let (free, closed, single) = plain table m (omega arith) (omega arith) (omega arith) in
-      let (unheld, unleft) = shut free closed single in
+      let closed = plain table m (omega arith) (omega arith) (omega arith) in
       let b = part n (m .b) (isStatement table (m .b)) (loop-fields table formed n m refl is .1) in
       let own : m .b % 256 ≡ m .b = omega (arith, b .0, few) in
-      by-bits false false r (ap leavesPlane same) (ap leftPlane same) (λ known. sym unheld)
-      (λ holding facts known. (
-        sym unleft,
+      by-bits false false r (ap leavesPlane same) (ap leftPlane same) (λ reading known. sym (shut closed reading .0))
+      (λ reading holding facts known.
+      let counts = reading .counts in
+      let whole : effect table counts n ≡ effect table counts (m .b) =
+      effect-here table n counts (rw (as-it-is reading) (formed .statement-fits n))
+      ∙ ap (effectOf table (effect table counts)) (as-it-is reading ∙ loop-of m is) in (
+        sym (shut closed reading .1),
         (rw (here, own) at answer)
             ∙ rw (
               known .known (m .b) (b .0),
               facts .known (m .b) (omega (arith, b .0)),
-              fact-statement table (m .b) (b .1),
+              fact-statement table counts (m .b) (b .1),
               is,
+              whole,
             )
-            (both-fail n (leftLocally table (m .b)) (effect table (m .b))),
+            (both-fail n (leftLocally table counts (m .b)) (effect table counts (m .b))),
       ))
 
   -- two parts in the same while
   module _ (x y : ℕ) (low-x : x < n) (low-y : y < n) (parts : openParts (statementAt table n) ≡ x ∷ y ∷ [])
       (no-leave-here : isLeave (statementAt table n) ≡ false) (other : m .kind ≡ 20 → ⊥) (local : Bool)
-      (is-local : FactsTo table (nodes table) (factsPlane planes) → local ≡ localIf table (statementAt table n)) where
+      (is-local : (reading : Reading table n (n + 1)) → FactsTo table (reading .counts) (nodes table) (factsPlane planes)
+      → local ≡ localIf table (statementAt table n)) where
     either : (test : ℕ → Bool) (plane : List ℕ) → PlaneTo test n plane → eitherBit plane x y ≡ (test x || test y)
     either test plane known =
         let own-x : x % 256 ≡ x = omega (arith, few) in
         let own-y : y % 256 ≡ y = omega (arith, few) in
         rw (own-x, own-y) (rw (known .known x low-x, known .known y low-y))
 
-    held-here : HeldTo table n (leavesPlane planes) → eitherBit (leavesPlane planes) x y ≡ holdsLeave table n
-    held-here known =
-        either (holdsLeave table) (leavesPlane planes) known
-        ∙ sym (holds-at table formed n ∙ simp (no-leave-here, parts, or-false))
+    held-here : (reading : Reading table n (n + 1)) → HeldTo table (reading .counts) n (leavesPlane planes)
+        → eitherBit (leavesPlane planes) x y ≡ holdsLeave table (reading .counts) n
+    held-here reading known =
+        either (holdsLeave table (reading .counts)) (leavesPlane planes) known
+        ∙ sym (holds-at table formed (reading .counts) n ∙ simp (as-it-is reading, no-leave-here, parts, or-false))
 
     pub pass-joined : Joined n local x y planes after → NodePassed table n planes after none
     pass-joined j =
         by-bits (eitherBit (leavesPlane planes) x y)
         ((local && eitherBit (leavesPlane planes) x y) || eitherBit (leftPlane planes) x y)
         none (j .held) (j .left) held-here
-        (λ holding facts known. (
-          rw (is-local facts, held-here holding, either (leftLocally table) (leftPlane planes) known)
-              (sym (left-at table formed n ∙ simp (parts, or-false))),
-          unruled other,
+        (λ reading holding facts known. (
+          rw (
+            is-local reading facts,
+            held-here reading holding,
+            either (leftLocally table (reading .counts)) (leftPlane planes) known,
+          )
+              (sym (left-at table formed (reading .counts) n ∙ simp (as-it-is reading, parts, or-false))),
+          unruled (reading .counts) other,
         ))
 
   module _ {node : Node} (here : node ≡ m) where
@@ -185,7 +203,7 @@ module _ (table : List ℕ) (formed : Formed table) (n : ℕ) (low : n < nodes t
         let b = part n (m .b) (isStatement table (m .b)) second in
         let s = statement-here table formed n m refl (sequence-of m is) in
         pass-joined (m .a) (m .b) (a .0) (b .0) (ap openParts s) (ap isLeave s) (omega arith) false
-        (λ facts. sym (ap (localIf table) s)) (rw here at j)
+        (λ reading facts. sym (ap (localIf table) s)) (rw here at j)
 
     pub pass-branch : m .kind ≡ 19 → (local : Bool) → local ≡ bitAt (factsPlane planes) (node .a % 256)
         → Joined n local (node .b) (node .c) planes after → NodePassed table n planes after none
@@ -198,43 +216,29 @@ module _ (table : List ℕ) (formed : Formed table) (n : ℕ) (low : n < nodes t
         let s = statement-here table formed n m refl (branch-of m is) in
         let own : m .a % 256 ≡ m .a = omega (arith, a .0, few) in
         pass-joined (m .b) (m .c) (b .0) (c .0) (ap openParts s) (ap isLeave s) (omega arith) local
-        (λ facts.
+        (λ reading facts.
         (rw (here, own) at read)
         ∙ facts .known (m .a) (omega (arith, a .0))
-        ∙ fact-expression table (m .a) (a .1)
+        ∙ fact-expression table (reading .counts) (m .a) (reading .each (m .a)) (a .1)
         ∙ sym (ap (localIf table) s))
         (rw here at j)
 
 -- the loop
-module _ (table : List ℕ) (rule : ℕ) (start : List ℕ) where
+module _ (table : List ℕ) (reading : ℕ → Statement) (rule : ℕ) (start : List ℕ) where
   pub passed-none : rule ≤ none → length start ≡ allPlanes → leftPlane start ≡ replicate planeWords 0
-      → leavesPlane start ≡ replicate planeWords 0 → PassedTo table rule start 0 start rule
+      → leavesPlane start ≡ replicate planeWords 0 → PassedTo table reading rule start 0 start rule
   unfolding leastBelow
   passed-none high size clear-left clear-held =
       record {
         size = size;
         facts = refl;
-        held = rw clear-held (plane-none (holdsLeave table));
-        left = λ facts. (rw clear-left (plane-none (leftLocally table)), omega arith);
+        held = rw clear-held (plane-none (holdsLeave table reading));
+        left = λ facts. (rw clear-left (plane-none (leftLocally table reading)), omega arith);
         high = high;
       }
 
-  pub passed-more : (n least found least′ : ℕ) (planes after : List ℕ) → PassedTo table rule start n planes least
-      → NodePassed table n planes after found → least′ ≡ min least found → PassedTo table rule start (n + 1) after least′
-  passed-more n least found least′ planes after so-far passed is =
-      record {
-        size = passed .size;
-        facts = passed .facts ∙ so-far .facts;
-        held = passed .held (so-far .held);
-        left = λ facts.
-            let old = so-far .left facts in
-            let new = passed .left (so-far .held) (rw (so-far .facts) facts) (old .0) in
-            (new .0, is ∙ rw (old .1, new .1) (omega (arith, least-more (leftCode table) n)));
-        high = omega (arith, is, so-far .high);
-      }
-
-  pub passed-all : {planes : List ℕ} {least n : ℕ} → PassedTo table rule start n planes least → n ≡ nodes table
-      → LeavesPassed table rule start planes least
+  pub passed-all : {planes : List ℕ} {least n : ℕ} → PassedTo table reading rule start n planes least → n ≡ nodes table
+      → LeavesPassed table reading rule start planes least
   passed-all so-far all =
       record {
         size = so-far .size;
@@ -244,14 +248,38 @@ module _ (table : List ℕ) (rule : ℕ) (start : List ℕ) where
         high = so-far .high;
       }
 
+-- one node more of a stretch
+module _ (table : List ℕ) (first start : ℕ) (before : List ℕ) where
+  pub stretch-none : length before ≡ allPlanes → start ≤ none → NodesPassed table first first start before before start
+  stretch-none size high = record { size = size; high = high; passed = λ reading rule begun so-far. so-far }
+
+  pub stretch-more : (n least found least′ : ℕ) (planes after : List ℕ) → first ≤ n
+      → NodesPassed table first n start before planes least → NodePassed table n planes after found → least′ ≡ min least found
+      → NodesPassed table first (n + 1) start before after least′
+  stretch-more n least found least′ planes after from so-far here is =
+      record {
+        size = here .size;
+        high = omega (arith, is, so-far .high);
+        passed = λ reading rule begun at-first.
+            let counts = reading .counts in
+            let last = last-of n from reading in
+            let old = so-far .passed (earlier-of n reading) rule begun at-first in
+            record {
+              size = here .size;
+              facts = here .facts ∙ old .facts;
+              held = here .held last (old .held);
+              left = λ facts.
+                  let known = old .left facts in
+                  let new = here .left last (old .held) (rw (old .facts) facts) (known .0) in
+                  (new .0, is ∙ rw (known .1, new .1) (omega (arith, least-more (leftCode table counts) n)));
+              high = omega (arith, is, so-far .high);
+            };
+      }
+
 -- a table without leaves
 
-word-bit : (marks : List ℕ) (k : ℕ) → getD marks (k / 32) 0 ≡ 0 → bitAt marks k ≡ false
-unfolding bitAt hasBit
-word-bit marks k e = rw e (ap (λ (w : ℕ). eqb (w % 2) 1) (zero-div (2 ^ (k % 32))))
-
 module _ (table : List ℕ) (formed : Formed table) (free : (k : ℕ) → k < nodes table → nodeAt table k .kind ≡ 26 → ⊥) where
-  none-ruled : (n : ℕ) → leftCode table n ≡ none
+  none-ruled : (n : ℕ) → leftCode table (statementAt table) n ≡ none
   unfolding leftCode
   none-ruled n =
       let unleft = none-left table formed free (nodeAt table n .b) in
@@ -259,7 +287,7 @@ module _ (table : List ℕ) (formed : Formed table) (free : (k : ℕ) → k < no
       (λ (e : eqb (nodeAt table n .kind) 20 ≡ false). simp e)
       (bool-cases (eqb (nodeAt table n .kind) 20))
 
-  none-least : (n : ℕ) → leastBelow (leftCode table) n ≡ none
+  none-least : (n : ℕ) → leastBelow (leftCode table (statementAt table)) n ≡ none
   unfolding leastBelow
   none-least zero = refl
   none-least (suc n) = omega (arith, none-least n, none-ruled n)
@@ -267,14 +295,11 @@ module _ (table : List ℕ) (formed : Formed table) (free : (k : ℕ) → k < no
 pub none-noted : (table : List ℕ) → Formed table → (rule : ℕ) → rule ≤ none → (planes : List ℕ) → length planes ≡ allPlanes
     → NotedTo table (nodes table) (leavesPlane planes)
     → allBelow (λ i. eqb (getD (midOf leavesFrom planeWords planes) i 0) 0) (length (midOf leavesFrom planeWords planes)) ≡ true
-    → LeavesPassed table rule planes planes rule
+    → LeavesPassed table (statementAt table) rule planes planes rule
 none-noted table formed rule high planes size noted lent =
     let all = rw (leaves-lent planes size) at lent in
     let clear : (k : ℕ) → k < 256 → bitAt (leavesPlane planes) k ≡ false =
-    λ k l.
-    word-bit (leavesPlane planes) k
-    (eqb-true (getD (leavesPlane planes) (k / 32) 0) 0
-    (all-at (λ i. eqb (getD (leavesPlane planes) i 0) 0) (length (leavesPlane planes)) all (k / 32) (omega (arith, noted .size)))) in
+    λ k l. none-set (leavesPlane planes) all k (omega (arith, noted .size)) in
     let free : (k : ℕ) → k < nodes table → nodeAt table k .kind ≡ 26 → ⊥ =
     λ k l. eqb-false (nodeAt table k .kind) 26 (sym (noted .known k l) ∙ clear k (omega (arith, formed .nodes-high))) in
     record {
@@ -317,25 +342,23 @@ module _ (planes left-words held-words : List ℕ) (size : length planes ≡ all
   held-many : length held-words ≡ planeWords
   held-many = ap length held-zero ∙ length-replicate {A = ℕ} planeWords 0
 
-  pub cleared-size : length both-cleared ≡ allPlanes
-  cleared-size = length-put-leaves first first-size held-words held-many
-
-  pub cleared-left : leftPlane both-cleared ≡ replicate planeWords 0
-  cleared-left =
-      used-put-leaves first first-size held-words held-many ∙ used-put-used planes size left-words left-many ∙ left-zero
-
-  pub cleared-held : leavesPlane both-cleared ≡ replicate planeWords 0
-  cleared-held = leaves-put-leaves first first-size held-words held-many ∙ held-zero
-
-  pub passed-cleared : {table after : List ℕ} {rule r : ℕ} → LeavesPassed table rule both-cleared after r
-      → LeavesPassed table rule planes after r
-  passed-cleared passed =
-      let same : factsPlane both-cleared ≡ factsPlane planes =
-      facts-put-leaves first first-size held-words held-many ∙ facts-put-used planes size left-words left-many in
+  pub both-clear : Cleared planes both-cleared
+  both-clear =
       record {
-        size = passed .size;
-        facts = passed .facts ∙ same;
-        held = passed .held;
-        least = λ facts. passed .least (rw same facts);
-        high = passed .high;
+        size = length-put-leaves first first-size held-words held-many;
+        facts = facts-put-leaves first first-size held-words held-many ∙ facts-put-used planes size left-words left-many;
+        held = leaves-put-leaves first first-size held-words held-many ∙ held-zero;
+        left = used-put-leaves first first-size held-words held-many ∙ used-put-used planes size left-words left-many ∙ left-zero;
       }
+
+-- a pass over planes that were cleared
+pub passed-cleared : {table between after : List ℕ} {reading : ℕ → Statement} {rule r : ℕ} (planes : List ℕ) → Cleared planes between
+    → LeavesPassed table reading rule between after r → LeavesPassed table reading rule planes after r
+passed-cleared planes clear passed =
+    record {
+      size = passed .size;
+      facts = passed .facts ∙ clear .facts;
+      held = passed .held;
+      least = λ facts. passed .least (rw (clear .facts) facts);
+      high = passed .high;
+    }

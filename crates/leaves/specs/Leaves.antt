@@ -4,30 +4,32 @@ use mathlib.Core.List.{List}
 use mathlib.Core.Path.{_≡_}
 use Prim.Native.Nat.{ℕ, _+_, _%_, _≤_, min}
 use lib.Dec.{eqb}
-use lib.ListN.{length}
+use lib.ListN.{length, replicate}
 use Rattle.rules.specs.Judgement.{effect, holdsLeave, leftLocally}
-use Rattle.rules.specs.Table.{nodes, nodeAt}
+use Rattle.rules.specs.Table.{nodes, nodeAt, Statement}
 use Rattle.table.specs.Marks.{bitAt, withBit}
-use Rattle.visit.specs.Facts.{PlaneTo, FactsTo}
-use Rattle.visit.specs.Fields.{usedPlane, factsPlane, leavesPlane, allPlanes}
+use Rattle.visit.specs.Facts.{Reading, PlaneTo, FactsTo}
+use Rattle.visit.specs.Fields.{usedPlane, factsPlane, leavesPlane, planeWords, allPlanes}
 use Rattle.visit.specs.Least.{none, failure, leastBelow}
 
 -- once questions 11 and 12 are answered, the first plane is that of the nodes that are left locally
 abbrev pub leftPlane : List ℕ → List ℕ
 leftPlane planes = usedPlane planes
 
-abbrev pub HeldTo : List ℕ → ℕ → List ℕ → Type 0
-HeldTo table = PlaneTo (holdsLeave table)
+-- by a reading
+module _ (table : List ℕ) (reading : ℕ → Statement) where
+  abbrev pub HeldTo : ℕ → List ℕ → Type 0
+  HeldTo = PlaneTo (holdsLeave table reading)
 
-abbrev pub LeftTo : List ℕ → ℕ → List ℕ → Type 0
-LeftTo table = PlaneTo (leftLocally table)
+  abbrev pub LeftTo : ℕ → List ℕ → Type 0
+  LeftTo = PlaneTo (leftLocally table reading)
 
--- the refusal by 16 at node n where it is a while that is left locally
-unfoldable pub leftCode : List ℕ → ℕ → ℕ
-leftCode table n =
-    cond (eqb (nodeAt table n .kind) 20)
-    (failure 16 n (not (leftLocally table (nodeAt table n .b)) || not (effect table (nodeAt table n .b))))
-    none
+  -- the refusal by 16 at node n where it is a while that is left locally
+  unfoldable pub leftCode : ℕ → ℕ
+  leftCode n =
+      cond (eqb (nodeAt table n .kind) 20)
+      (failure 16 n (not (leftLocally table reading (nodeAt table n .b)) || not (effect table reading n)))
+      none
 
 -- one of two nodes has its bit
 abbrev pub eitherBit : List ℕ → ℕ → ℕ → Bool
@@ -44,27 +46,45 @@ pub record Joined (n : ℕ) (local : Bool) (x y : ℕ) (before after : List ℕ)
       (withBit (leftPlane before) n)
       (leftPlane before)
 
--- one node more; what is left locally needs the facts
+-- one node more, by every reading by which it counts as what it is; what is left locally needs the facts
 pub record NodePassed (table : List ℕ) (n : ℕ) (before after : List ℕ) (r : ℕ) : Type 0 where
   pub size : length after ≡ allPlanes
   pub facts : factsPlane after ≡ factsPlane before
-  pub held : HeldTo table n (leavesPlane before) → HeldTo table (n + 1) (leavesPlane after)
-  pub left : HeldTo table n (leavesPlane before) → FactsTo table (nodes table) (factsPlane before)
-      → LeftTo table n (leftPlane before) → LeftTo table (n + 1) (leftPlane after) × (r ≡ leftCode table n)
+  pub held : (reading : Reading table n (n + 1)) → HeldTo table (reading .counts) n (leavesPlane before)
+      → HeldTo table (reading .counts) (n + 1) (leavesPlane after)
+  pub left : (reading : Reading table n (n + 1)) → HeldTo table (reading .counts) n (leavesPlane before)
+      → FactsTo table (reading .counts) (nodes table) (factsPlane before) → LeftTo table (reading .counts) n (leftPlane before)
+      → LeftTo table (reading .counts) (n + 1) (leftPlane after) × (r ≡ leftCode table (reading .counts) n)
 
 -- the nodes below n, and the least refusal so far
-pub record PassedTo (table : List ℕ) (rule : ℕ) (before : List ℕ) (n : ℕ) (planes : List ℕ) (least : ℕ) : Type 0 where
+pub record PassedTo (table : List ℕ) (reading : ℕ → Statement) (rule : ℕ) (before : List ℕ) (n : ℕ) (planes : List ℕ) (least : ℕ)
+    : Type 0 where
   pub size : length planes ≡ allPlanes
   pub facts : factsPlane planes ≡ factsPlane before
-  pub held : HeldTo table n (leavesPlane planes)
-  pub left : FactsTo table (nodes table) (factsPlane before)
-      → LeftTo table n (leftPlane planes) × (least ≡ min rule (leastBelow (leftCode table) n))
+  pub held : HeldTo table reading n (leavesPlane planes)
+  pub left : FactsTo table reading (nodes table) (factsPlane before)
+      → LeftTo table reading n (leftPlane planes) × (least ≡ min rule (leastBelow (leftCode table reading) n))
   pub high : least ≤ none
 
--- all nodes
-pub record LeavesPassed (table : List ℕ) (rule : ℕ) (before after : List ℕ) (r : ℕ) : Type 0 where
+-- the nodes from `first` up to `end`, by every reading by which they count as what they are
+pub record NodesPassed (table : List ℕ) (first end start : ℕ) (before after : List ℕ) (r : ℕ) : Type 0 where
+  pub size : length after ≡ allPlanes
+  pub high : r ≤ none
+  pub passed : (reading : Reading table first end) (rule : ℕ) (begun : List ℕ)
+      → PassedTo table (reading .counts) rule begun first before start → PassedTo table (reading .counts) rule begun end after r
+
+-- before the first node: both planes are clear, and the facts as they were
+pub record Cleared (before after : List ℕ) : Type 0 where
   pub size : length after ≡ allPlanes
   pub facts : factsPlane after ≡ factsPlane before
-  pub held : HeldTo table (nodes table) (leavesPlane after)
-  pub least : FactsTo table (nodes table) (factsPlane before) → r ≡ min rule (leastBelow (leftCode table) (nodes table))
+  pub held : leavesPlane after ≡ replicate planeWords 0
+  pub left : leftPlane after ≡ replicate planeWords 0
+
+-- all nodes
+pub record LeavesPassed (table : List ℕ) (reading : ℕ → Statement) (rule : ℕ) (before after : List ℕ) (r : ℕ) : Type 0 where
+  pub size : length after ≡ allPlanes
+  pub facts : factsPlane after ≡ factsPlane before
+  pub held : HeldTo table reading (nodes table) (leavesPlane after)
+  pub least : FactsTo table reading (nodes table) (factsPlane before)
+      → r ≡ min rule (leastBelow (leftCode table reading) (nodes table))
   pub high : r ≤ none

@@ -4,12 +4,10 @@
 ghost use mathlib.Core.Bool.{cond, _&&_, _||_};
 ghost use mathlib.Core.Path.{_≡_};
 ghost use Prim.Native.Nat.{_%_, _<_, _≤_};
-ghost use lib.Dec.{eqb};
-ghost use lib.ListN.{length, getD, replicate};
-ghost use Rattle.leaves.specs.Leaves.{leftPlane, eitherBit, Joined, NodePassed, LeavesPassed};
+ghost use lib.ListN.{length};
+ghost use Rattle.leaves.specs.Leaves.{leftPlane, eitherBit, Joined, NodePassed, NodesPassed, Cleared, LeavesPassed};
 ghost use Rattle.loops.specs.Built.{Built};
-ghost use Rattle.rules.specs.Choice.{allBelow};
-ghost use Rattle.rules.specs.Table.{nodes};
+ghost use Rattle.rules.specs.Table.{nodes, statementAt};
 ghost use Rattle.table.specs.Marks.{bitAt, withBit};
 ghost use Rattle.visit.specs.Facts.{NotedTo};
 ghost use Rattle.visit.specs.Fields.{factsPlane, leavesPlane, allPlanes, planeWords};
@@ -18,6 +16,7 @@ use table::Header;
 use table::marks::clear;
 use table::marks::mark;
 use table::marks::marked;
+use table::marks::none_marked;
 use table::words::kind_at;
 use table::words::node_at;
 use visit::LEAVES;
@@ -142,15 +141,21 @@ fn pass_node(table: &[u8], header: Header, planes: &mut [u32], n: usize) -> usiz
     }
 }
 
-fn pass_nodes(table: &[u8], header: Header, planes: &mut [u32], rule: usize) -> usize
-    requires { ⌜ Built (now table) header × (rule ≤ none) × (length (now planes) ≡ allPlanes) ⌝ }
-    requires { ⌜ (leftPlane (now planes) ≡ replicate planeWords 0) × (leavesPlane (now planes) ≡ replicate planeWords 0) ⌝ }
-    ensures { λ r. ⌜ LeavesPassed (now (table .entry)) rule (now (planes .entry)) (now (planes .exit)) r ⌝ }
+// The nodes from `first` up to `end`, and the least refusal on from `start`.
+pub fn pass_nodes(
+    table: &[u8],
+    header: Header,
+    planes: &mut [u32],
+    start: usize,
+    first: usize,
+    end: usize,
+) -> usize
+    requires { ⌜ Built (now table) header × (start ≤ none) × (length (now planes) ≡ allPlanes) × (first ≤ end) × (end ≤ nodes (now table)) ⌝ }
+    ensures { λ r. ⌜ NodesPassed (now (table .entry)) first end start (now (planes .entry)) (now (planes .exit)) r ⌝ }
 {
-    let count = header.nodes;
-    let mut least = rule;
-    let mut n = 0;
-    while n < count {
+    let mut least = start;
+    let mut n = first;
+    while n < end {
         let found = pass_node(table, header, planes, n);
         least = lesser(least, found);
         n += 1;
@@ -158,31 +163,24 @@ fn pass_nodes(table: &[u8], header: Header, planes: &mut [u32], rule: usize) -> 
     least
 }
 
-fn none_marked(marks: &[u32]) -> bool
-    requires { ⌜ length (now marks) ≡ planeWords ⌝ }
-    ensures { λ r. ⌜ r ≡ allBelow (λ i. eqb (getD (now (marks .entry)) i 0) 0) (length (now (marks .entry))) ⌝ }
+// Both planes of a pass, before its first node.
+pub fn clear_leaves(planes: &mut [u32])
+    requires { ⌜ length (now planes) ≡ allPlanes ⌝ }
+    ensures { λ _. ⌜ Cleared (now (planes .entry)) (now (planes .exit)) ⌝ }
 {
-    let count = marks.len();
-    let mut i = 0;
-    while i < count {
-        if marks[i] != 0 {
-            return false;
-        }
-        i += 1;
-    }
-    true
+    clear(&mut planes[0..PLANE]);
+    clear(&mut planes[LEAVES..PLANES]);
 }
 
 // The least refusal once 16 is asked of whiles that are left locally; which nodes hold a leave is kept.
 pub fn pass_leaves(table: &[u8], header: Header, planes: &mut [u32], rule: usize) -> usize
     requires { ⌜ Built (now table) header × (rule ≤ none) × (length (now planes) ≡ allPlanes) ⌝ }
     requires { ⌜ NotedTo (now table) (nodes (now table)) (leavesPlane (now planes)) ⌝ }
-    ensures { λ r. ⌜ LeavesPassed (now (table .entry)) rule (now (planes .entry)) (now (planes .exit)) r ⌝ }
+    ensures { λ r. ⌜ LeavesPassed (now (table .entry)) (statementAt (now (table .entry))) rule (now (planes .entry)) (now (planes .exit)) r ⌝ }
 {
     if none_marked(&planes[LEAVES..PLANES]) {
         return rule;
     }
-    clear(&mut planes[0..PLANE]);
-    clear(&mut planes[LEAVES..PLANES]);
-    pass_nodes(table, header, planes, rule)
+    clear_leaves(planes);
+    pass_nodes(table, header, planes, rule, 0, header.nodes)
 }

@@ -7,7 +7,7 @@ ghost use lib.ListN.{length};
 ghost use Rattle.leaves.specs.Leaves.{HeldTo};
 ghost use Rattle.loops.specs.Built.{Built};
 ghost use Rattle.rules.specs.Choice.{firstFailing, allBelow};
-ghost use Rattle.rules.specs.Table.{procedures, nodes, body};
+ghost use Rattle.rules.specs.Table.{procedures, nodes, body, statementAt};
 ghost use Rattle.rules.specs.WellFormed.{leaveEnclosed};
 ghost use Rattle.table.specs.Marks.{bitAt};
 ghost use Rattle.visit.specs.Fields.{leavesPlane, allPlanes};
@@ -61,7 +61,7 @@ fn first_open(table: &[u8], header: Header) -> usize
 // The first leave with no while around it, in a table whose nodes are all visited.
 pub fn first_loose(table: &[u8], header: Header, planes: &[u32]) -> usize
     requires { ⌜ Built (now table) header × (length (now planes) ≡ allPlanes) ⌝ }
-    requires { ⌜ HeldTo (now table) (nodes (now table)) (leavesPlane (now planes)) ⌝ }
+    requires { ⌜ HeldTo (now table) (statementAt (now table)) (nodes (now table)) (leavesPlane (now planes)) ⌝ }
     ensures { λ r. ⌜ r ≡ firstFailing (leaveEnclosed (now (table .entry))) (nodes (now (table .entry))) ⌝ }
 {
     if bodies_closed(table, header, planes) {

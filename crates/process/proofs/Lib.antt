@@ -2,6 +2,7 @@
 pub mod NumberLaws
 pub mod ReadLaws
 pub mod ExpressionLaws
+pub mod FixingLaws
 pub mod StackedLaws
 pub mod UnwindLaws
 pub mod StatementLaws

@@ -48,7 +48,7 @@ fn both(x: u32, y: u32) -> u32
 }
 
 // Kinds 6 to 12 on the values of the two parts.
-fn apply(kind: u32, x: u32, y: u32) -> u32
+pub(crate) fn apply(kind: u32, x: u32, y: u32) -> u32
     requires { ⌜ 6 ≤ kind ⌝ }
     ensures { λ r. ⌜ r ≡ applied (operatorOf kind) x y ⌝ }
 {
@@ -63,6 +63,14 @@ fn apply(kind: u32, x: u32, y: u32) -> u32
     }
 }
 
+// "constant: B × 512 + C"
+pub(crate) fn constant(node: Node) -> u32
+    requires { ⌜ (node .b < 512) × (node .c < 512) ⌝ }
+    ensures { λ r. ⌜ r ≡ node .b * 512 + node .c ⌝ }
+{
+    node.b * 512 + node.c
+}
+
 // Kinds 0 to 3, which have no parts.
 fn leaf(node: Node, words: &[u32], own: u32, count: u32) -> u32
     requires { ⌜ (node .kind < 4) × (node .b < 512) × (node .c < 512) × (length (now words) ≡ processWords) ⌝ }
@@ -72,7 +80,7 @@ fn leaf(node: Node, words: &[u32], own: u32, count: u32) -> u32
 {
     let kind = node.kind;
     if kind == 0 {
-        return node.b * 512 + node.c;
+        return constant(node);
     }
     if kind == 1 {
         let a = node.a as usize;

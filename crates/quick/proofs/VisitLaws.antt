@@ -16,7 +16,7 @@ use Rattle.table.specs.Marks.{withBit}
 use Rattle.table.specs.Roles.{fieldFits}
 use Rattle.table.specs.Sized.{Sized}
 use Rattle.visit.specs.declared.Visit.{Visit}
-use Rattle.visit.specs.Facts.{FactsTo, Settled}
+use Rattle.visit.specs.Facts.{Reading, FactsTo, Settled}
 use Rattle.visit.specs.Fields.{usedPlane, factsPlane, leavesPlane, allPlanes, Fields, Kept}
 use Rattle.visit.specs.Quick.{Quick}
 use Rattle.quick.specs.Visited.{Visited}
@@ -49,8 +49,8 @@ module _ (table : List ℕ) (v : Visit) (sized : Sized table (v .header)) (low :
   arm : (m : Node) (roles source question guard r : ℕ) (before now between after : List ℕ) (used : Bool)
       → m ≡ nodeAt table n
       → Named (m .kind) roles
-      → (n < nodes table → nodeFits table n ≡ true → FactsTo table n (factsPlane before)
-      → Judges table n (factsPlane before) source question guard)
+      → (n < nodes table → nodeFits table n ≡ true → (reading : Reading table n (n + 1)) → FactsTo table (reading .counts) n (factsPlane before)
+      → Judges table (reading .counts) n (factsPlane before) source question guard)
       → length before ≡ allPlanes
       → Fields table v m roles before now used
       → Kept used now between
@@ -78,17 +78,17 @@ module _ (table : List ℕ) (v : Visit) (sized : Sized table (v .header)) (low :
         noted = λ h known.
             plane-more (λ i. eqb (nodeAt table i .kind) 26) n (leavesPlane before) (leavesPlane after) few known
             (s .leaves ∙ noted (free h) ∙ rw (here, f .leaves) refl);
-        facts = λ h known.
-            settled-judged table v m used source question guard between after r s here (free h) few
-            (rw facts-same known) (rw facts-same (judges inside (taken h .fits) known));
+        facts = λ h reading known.
+            settled-judged table v m used source question guard between after r s here (free h) few (reading .counts)
+            (rw facts-same known) (rw facts-same (judges inside (taken h .fits) reading known));
       }
 
   -- that of a leave
   pub leave-arm : (m : Node) (roles source question guard r : ℕ) (before now between after : List ℕ) (used : Bool)
       → m ≡ nodeAt table n
       → Named (m .kind) roles
-      → (n < nodes table → nodeFits table n ≡ true → FactsTo table n (factsPlane before)
-      → Judges table n (factsPlane before) source question guard)
+      → (n < nodes table → nodeFits table n ≡ true → (reading : Reading table n (n + 1)) → FactsTo table (reading .counts) n (factsPlane before)
+      → Judges table (reading .counts) n (factsPlane before) source question guard)
       → length before ≡ allPlanes
       → Fields table v m roles before now used
       → Kept used now between
@@ -104,8 +104,9 @@ module _ (table : List ℕ) (v : Visit) (sized : Sized table (v .header)) (low :
   pub word-arm : {Key : ℕ → Type 0} {kind roles source question r : ℕ} {word m : Node} {before now after : List ℕ} {used : Bool}
       (guard : Node → ℕ)
       → ((k : ℕ) → Key k → Named k roles)
-      → (n < nodes table → nodeFits table n ≡ true → FactsTo table n (factsPlane before) → Key (nodeAt table n .kind)
-      → Judges table n (factsPlane before) source question (guard (nodeAt table n)))
+      → (n < nodes table → nodeFits table n ≡ true → (reading : Reading table n (n + 1)) → FactsTo table (reading .counts) n (factsPlane before)
+      → Key (nodeAt table n .kind)
+      → Judges table (reading .counts) n (factsPlane before) source question (guard (nodeAt table n)))
       → ((k : ℕ) → Key k → k ≡ 26 → ⊥)
       → length before ≡ allPlanes
       → word ≡ nodeAt table n
@@ -121,7 +122,7 @@ module _ (table : List ℕ) (v : Visit) (sized : Sized table (v .header)) (low :
       let key-here : Key (nodeAt table n .kind) = rw (is ∙ ap (λ (m : Node). m .kind) here) at key in
       let key-node : Key (m .kind) = rw (← same) at key-here in
       arm m roles source question (guard m) r before now now after used same (named (m .kind) key-node)
-      (λ inside fits known. rw same (judges inside fits known key-here)) size f (kept-none used now (f .size)) s
+      (λ inside fits reading known. rw same (judges inside fits reading known key-here)) size f (kept-none used now (f .size)) s
       (λ e. simp (ne-eqb (m .kind) 26 (other (m .kind) key-node)))
 
   -- a kind that is not known

@@ -7,13 +7,14 @@ use Rattle.rules.specs.Table.{procedures}
 use Rattle.table.specs.Uses.{CallsBelow}
 use Rattle.visit.specs.declared.Visit.{Visit}
 use Rattle.visit.specs.Exact.{nodeBest}
-use Rattle.visit.specs.Facts.{guardCode, FactsTo, NotedTo}
+use Rattle.visit.specs.Facts.{Reading, guardCode, FactsTo, NotedTo}
 use Rattle.visit.specs.Fields.{usedPlane, factsPlane, leavesPlane, allPlanes}
 use Rattle.visit.specs.Least.{none}
 use Rattle.visit.specs.Quick.{Quick}
 
 -- a visit that answers 0 is stuck: it changes nothing, and if a call might name any procedure, something fails at the node. Any other
--- answers the refusal by the node's rule, as far as that does not look at leaves.
+-- answers the refusal by the node's rule, as far as that does not look at leaves. Fact and rule are those of every reading by which
+-- the node counts as what it is.
 pub record Visited (table : List ℕ) (v : Visit) (before after : List ℕ) (r : ℕ) : Type 0 where
   pub size : length after ≡ allPlanes
   pub same : r ≡ 0 → after ≡ before
@@ -22,5 +23,5 @@ pub record Visited (table : List ℕ) (v : Visit) (before after : List ℕ) (r :
   pub taken : (r ≡ 0 → ⊥) → Quick table (v .node) (usedPlane before) (usedPlane after)
   pub called : (r ≡ 0 → ⊥) → CallsBelow table (v .node) (v .limit)
   pub noted : (r ≡ 0 → ⊥) → NotedTo table (v .node) (leavesPlane before) → NotedTo table (v .node + 1) (leavesPlane after)
-  pub facts : (r ≡ 0 → ⊥) → FactsTo table (v .node) (factsPlane before)
-      → FactsTo table (v .node + 1) (factsPlane after) × (r ≡ guardCode table (v .node))
+  pub facts : (r ≡ 0 → ⊥) → (reading : Reading table (v .node) (v .node + 1)) → FactsTo table (reading .counts) (v .node) (factsPlane before)
+      → FactsTo table (reading .counts) (v .node + 1) (factsPlane after) × (r ≡ guardCode table (reading .counts) (v .node))

@@ -13,6 +13,7 @@ use lib.Seq.{getD-at, getD-append-add}
 use borrow.Author.Tests.{eqb-true, eq-eqb}
 use Rattle.rules.specs.Collective.{received}
 use Rattle.rules.specs.Evaluation.{Environment, value}
+use Rattle.rules.specs.Judgement.{live}
 use Rattle.rules.specs.Process.{variablePlaces, gatheredPlaces, latchPlaces, mostProcesses, latchesAt, depthAt, stackAt, stackPlaces, processWords}
 use Rattle.rules.specs.Process.{processAt, environment, depth, top, popped, replaced, pushed, advanced, needsPlace}
 use Rattle.rules.specs.Start.{startSize, startProcess}
@@ -24,8 +25,9 @@ use Rattle.rules.proofs.ChoiceLaws.{bool-cases, all-false}
 use Rattle.rules.proofs.EntryLaws.{Each, each-kept, each-popped, each-replaced, each-pushed}
 use Rattle.rules.proofs.EntryLaws.{set-keeps, latch-keeps, unwound-keeps, Statements}
 use Rattle.rules.proofs.Formed.{Formed, Enclosed}
-use Rattle.rules.proofs.HomeLaws.{Home, calls-body, sequence-homes, branch-homes, loop-home, call-home}
+use Rattle.rules.proofs.HomeLaws.{Home, calls-body, sequence-homes, branch-home, loop-home, call-home}
 use Rattle.rules.proofs.HomeLaws.{sequence-place, loop-place, assign-low, call-below}
+use Rattle.rules.proofs.LiveLaws.{live-body}
 use Rattle.rules.proofs.LoopLaws.{OpenPart, nearest-part, nearest-body, nearest-procedure}
 use Rattle.rules.proofs.LoopLaws.{Within, Inside, inside-near, inside-same}
 use Rattle.rules.proofs.SizeLaws.{room, room-suc, room-all}
@@ -176,6 +178,9 @@ module _ (table : List ℕ) (f : Formed table) (words : List ℕ) (sized : lengt
       (λ (e : isLeave (statementAt table (top words)) ≡ false). simp e)
       (bool-cases (isLeave (statementAt table (top words))))
 
+  pub top-alive : live table (top words) ≡ true
+  top-alive = top-home .alive
+
   pub top-statement : isStatement table (top words) ≡ true
   top-statement = top-home .statement
 
@@ -205,15 +210,11 @@ module _ (table : List ℕ) (f : Formed table) (words : List ℕ) (sized : lengt
       subst (Within table (nearestLoop table a)) (sym (stack-replaced words sized b h (placed .depth-high)))
       (inr (nearest-part table f (top words) b second ∙ sym (nearest-part table f (top words) a first), part-inside a first l)))
 
-  placed-branch : (a b c : ℕ) (test : Bool) → statementAt table (top words) ≡ branch a b c
-      → Placed table (replaced words (cond test c b))
+  branch-inside : (a b c : ℕ) (test : Bool) → statementAt table (top words) ≡ branch a b c
+      → Inside table (cond test c b) (stackOf words (depth words - 1))
   unfolding openParts
-  placed-branch a b c true s =
-      placed-replaced table words sized placed c h (branch-homes table f (top words) (depth words - 1) top-home a b c s .1)
-      (part-inside c (rw s (inr (inl refl))))
-  placed-branch a b c false s =
-      placed-replaced table words sized placed b h (branch-homes table f (top words) (depth words - 1) top-home a b c s .0)
-      (part-inside b (rw s (inl refl)))
+  branch-inside a b c true s = part-inside c (rw s (inr (inl refl)))
+  branch-inside a b c false s = part-inside b (rw s (inl refl))
 
   module _ (env : Environment) where
     advanced-by : (s : Statement) → statementAt table (top words) ≡ s → Placed table (advanced table env words s)
@@ -224,7 +225,10 @@ module _ (table : List ℕ) (f : Formed table) (words : List ℕ) (sized : lengt
         placed-popped table (set words a v) (length-set words a v ∙ sized)
         (set-keeps (Placed table) (placed-kept table) (placed-popped table) words a v (assign-low table f (top words) a b e) placed)
     advanced-by (sequence a b) e = placed-sequence a b e
-    advanced-by (branch a b c) e = placed-branch a b c (eqb (value table env a) 0) e
+    advanced-by (branch a b c) e =
+        let test = eqb (value table env a) 0 in
+        placed-replaced table words sized placed (cond test c b) h
+        (branch-home table f (top words) (depth words - 1) top-home a b c env test refl e) (branch-inside a b c test e)
     advanced-by (loop a b) e = placed-loop a b (eqb (value table env a) 0) e
     advanced-by (call q) e =
         placed-replaced table words sized placed (body table q) h
@@ -297,6 +301,7 @@ placed-one table f words d e =
       procedure-below = below;
       calls = calls-body table f last below;
       fits = omega (arith, all, room-suc table last);
+      alive = live-body table f last below;
     } in
     record {
       depth-high = omega arith;

@@ -87,7 +87,7 @@ module _ (table : List ℕ) (n : ℕ) where
   collective-sort (exchange x r) a h (inr i) = absurd i
 
   -- a part of a statement is an expression, stands in the same while, or is a while's body
-  abbrev Sorted : Statement → ℕ → Type 0
+  abbrev pub Sorted : Statement → ℕ → Type 0
   Sorted s a = (isExpression table a ≡ true) ⊎ (In a (openParts s) ⊎ ((c : ℕ) × (s ≡ loop c a)))
 
   statement-sort : (s : Statement) (a : ℕ) → statementFits table n s ≡ true → In a (statementParts s) → Sorted s a
@@ -118,7 +118,7 @@ module _ (table : List ℕ) (n : ℕ) where
   statement-sort leave a h i = absurd i
 
   -- an expression reads as nothing
-  expression-nothing : isExpression table n ≡ true → statementAt table n ≡ nothing
+  pub expression-nothing : isExpression table n ≡ true → statementAt table n ≡ nothing
   unfolding isExpression statementAt statementOf
   expression-nothing e =
       let low : nodeAt table n .kind - 16 ≡ 0 = omega (arith, leb-true (nodeAt table n .kind) 12 e) in
@@ -126,7 +126,7 @@ module _ (table : List ℕ) (n : ℕ) where
 
 module _ (table : List ℕ) (formed : Formed table) where
   -- a node is a part of a node or a procedure's body
-  user : (n : ℕ) → n < nodes table
+  pub user : (n : ℕ) → n < nodes table
       → ((m : ℕ) × In n (partsAt table m)) ⊎ ((p : ℕ) × (p < procedures table) × (n ≡ body table p))
   unfolding uses
   user n l =
@@ -141,34 +141,37 @@ module _ (table : List ℕ) (formed : Formed table) where
             inr (p, b, ⊎-elim (λ (e : n ≡ body table p). e) (λ (z : ⊥). absurd z) i)
       ]
 
-  -- a part that is a statement stands in the same while, or is a while's body
-  part-sort : (m n : ℕ) → statementAt table n ≢ nothing → In n (partsAt table m)
-      → OpenPart table formed n m ⊎ ((c : ℕ) × (statementAt table m ≡ loop c n))
+  -- a part is an expression, stands in the same while, or is a while's body
+  pub part-sorted : (m n : ℕ) → In n (partsAt table m) → Sorted table m (statementAt table m) n
   unfolding partsAt
-  part-sort m n some i =
+  part-sorted m n i =
       ⊎-elim
       (λ (h : In n (expressionParts (expressionAt table m))).
-      absurd
-      (some
-      (expression-nothing table n (expression-sort table m (expressionAt table m) n (formed .expression-fits m) h))))
+      inl (expression-sort table m (expressionAt table m) n (formed .expression-fits m) h))
       (λ (h : In n (statementParts (statementAt table m))).
+      statement-sort table m (statementAt table m) n (formed .statement-fits m) h)
+      (in-append (expressionParts (expressionAt table m)) (statementParts (statementAt table m)) n i)
+
+  -- and one that is a statement stands in the same while, or is a while's body
+  part-sort : (m n : ℕ) → statementAt table n ≢ nothing → In n (partsAt table m)
+      → OpenPart table formed n m ⊎ ((c : ℕ) × (statementAt table m ≡ loop c n))
+  part-sort m n some i =
       ⊎-elim
       (λ (e : isExpression table n ≡ true). absurd (some (expression-nothing table n e)))
       (λ (e : In n (openParts (statementAt table m)) ⊎ ((c : ℕ) × (statementAt table m ≡ loop c n))). e)
-      (statement-sort table m (statementAt table m) n (formed .statement-fits m) h))
-      (in-append (expressionParts (expressionAt table m)) (statementParts (statementAt table m)) n i)
+      (part-sorted m n i)
 
   open-some : (s : Statement) (a : ℕ) → In a (openParts s) → s ≢ nothing
   unfolding openParts
   open-some s a i e = subst (λ t. In a (openParts t)) e i
 
-  held-part : (m n : ℕ) → OpenPart table formed n m → holdsLeave table n ≡ true → holdsLeave table m ≡ true
+  held-part : (m n : ℕ) → OpenPart table formed n m → holdsLeave table (statementAt table) n ≡ true → holdsLeave table (statementAt table) m ≡ true
   unfolding holdsLeave
   held-part m n i h = openly-part table formed (λ k. isLeave (statementAt table k)) m n i h
 
-  module _ (bodies : (p : ℕ) → p < procedures table → holdsLeave table (body table p) ≡ false) where
+  module _ (bodies : (p : ℕ) → p < procedures table → holdsLeave table (statementAt table) (body table p) ≡ false) where
     -- up from a statement that holds a leave
-    climbed : (k n : ℕ) → nodes table ≤ n + k → n < nodes table → statementAt table n ≢ nothing → holdsLeave table n ≡ true
+    climbed : (k n : ℕ) → nodes table ≤ n + k → n < nodes table → statementAt table n ≢ nothing → holdsLeave table (statementAt table) n ≡ true
         → nearestLoop table n < nodes table
     climbed zero n far l some held = absurd (omega arith)
     climbed (suc k) n far l some held =
@@ -185,7 +188,7 @@ module _ (table : List ℕ) (formed : Formed table) where
         (part-sort m n some i))
         (λ (found : (p : ℕ) × (p < procedures table) × (n ≡ body table p)).
         let (p, b, e) = found in
-        let none : holdsLeave table n ≡ false = ap (holdsLeave table) e ∙ bodies p b in
+        let none : holdsLeave table (statementAt table) n ≡ false = ap (holdsLeave table (statementAt table)) e ∙ bodies p b in
         let z : _≡_ {A = ℕ} 0 1 = cc in
         absurd (omega arith))
         (user n l)

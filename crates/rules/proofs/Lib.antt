@@ -3,12 +3,15 @@ pub mod ChoiceLaws
 pub mod BelowLaws
 pub mod AnswerLaws
 pub mod Formed
-pub mod Judged
 pub mod KindLaws
 pub mod ValueLaws
+pub mod FixedLaws
 pub mod PartLaws
 pub mod SizeLaws
 pub mod LoopLaws
+pub mod LiveLaws
+pub mod Judged
+pub mod FormerLaws
 pub mod LeaveLaws
 pub mod StackLaws
 pub mod HomeLaws
@@ -32,6 +35,7 @@ pub mod TurnCases
 pub mod BufferedLaws
 pub mod ScratchLaws
 pub mod SoundRun
+pub mod LiveTurns
 pub mod ServingLaws
 pub mod FairLaws
 pub mod Together

@@ -49,7 +49,7 @@ counted-append [] ys a = omega arith
 counted-append (x ∷ xs) ys a = omega (arith, counted-append xs ys a)
 
 module _ (list : ℕ → List ℕ) (a : ℕ) where
-  joined-one : (n k : ℕ) → k < n → occurrences a (list k) ≤ occurrences a (joined list n)
+  pub joined-one : (n k : ℕ) → k < n → occurrences a (list k) ≤ occurrences a (joined list n)
   unfolding joined
   joined-one zero k l = absurd (omega arith)
   joined-one (suc n) k l =
@@ -92,13 +92,13 @@ abbrev pub anyOf : (ℕ → Bool) → List ℕ → Bool
 anyOf test [] = false
 anyOf test (x ∷ xs) = test x || anyOf test xs
 
-some-any : (results : List Bool) (test : ℕ → Bool) (xs : List ℕ) → ((a : ℕ) → In a xs → getD results a false ≡ test a)
+pub some-any : (results : List Bool) (test : ℕ → Bool) (xs : List ℕ) → ((a : ℕ) → In a xs → getD results a false ≡ test a)
     → someOf results xs ≡ anyOf test xs
 unfolding someOf
 some-any results test [] same = refl
 some-any results test (x ∷ xs) same = rw (same x (inl refl), some-any results test xs (λ a i. same a (inr i)))
 
-any-found : (test : ℕ → Bool) (xs : List ℕ) → anyOf test xs ≡ true → (a : ℕ) × In a xs × (test a ≡ true)
+pub any-found : (test : ℕ → Bool) (xs : List ℕ) → anyOf test xs ≡ true → (a : ℕ) × In a xs × (test a ≡ true)
 any-found test [] e = let z : _≡_ {A = ℕ} 0 1 = cc in absurd (omega arith)
 any-found test (x ∷ xs) e =
     ⊎-elim
@@ -106,7 +106,7 @@ any-found test (x ∷ xs) e =
     (λ (h : anyOf test xs ≡ true). let (a, i, g) = any-found test xs h in (a, inr i, g))
     (either-cases (test x) (anyOf test xs) e)
 
-any-at : (test : ℕ → Bool) (xs : List ℕ) (a : ℕ) → In a xs → test a ≡ true → anyOf test xs ≡ true
+pub any-at : (test : ℕ → Bool) (xs : List ℕ) (a : ℕ) → In a xs → test a ≡ true → anyOf test xs ≡ true
 any-at test [] a i e = absurd i
 any-at test (x ∷ xs) a (inl h) e = rw (← h) (simp e)
 any-at test (x ∷ xs) a (inr i) e = either-right (test x) (anyOf test xs) (any-at test xs a i e)
@@ -116,7 +116,7 @@ same-test true t f g = sym (f refl)
 same-test false true f g = g refl
 same-test false false f g = refl
 
-failing : (t : Bool) → (t ≡ true → ⊥) → not t ≡ true
+pub failing : (t : Bool) → (t ≡ true → ⊥) → not t ≡ true
 failing true f = absurd (f refl)
 failing false f = refl
 
@@ -125,7 +125,7 @@ module _ (table : List ℕ) (formed : Formed table) where
   abbrev pub OpenPart : ℕ → ℕ → Type 0
   OpenPart a n = In a (openParts (statementAt table n))
 
-  statement-part : (n a : ℕ) → In a (statementParts (statementAt table n)) → In a (partsAt table n)
+  pub statement-part : (n a : ℕ) → In a (statementParts (statementAt table n)) → In a (partsAt table n)
   unfolding partsAt
   statement-part n a i = in-behind (expressionParts (expressionAt table n)) (statementParts (statementAt table n)) a i
 

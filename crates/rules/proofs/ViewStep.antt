@@ -11,7 +11,7 @@ use lib.ListN.{length, set, length-set}
 use borrow.Author.Tests.{lt-ltb, ltb-true, ne-eqb}
 use Rattle.rules.specs.Acceptance.{ruleOf, bodyFlagged}
 use Rattle.rules.specs.Evaluation.{Environment, value}
-use Rattle.rules.specs.Judgement.{single, effect, effectOf, leftLocally}
+use Rattle.rules.specs.Judgement.{single, live, counted, effectOf, leftLocally}
 use Rattle.rules.specs.Process.{variablePlaces, latchPlaces, mostProcesses, environment, latchesAt, depthAt, stackPlaces, processWords}
 use Rattle.rules.specs.Process.{depth, top, popped, replaced, pushed, unwound, advanced, needsPlace}
 use Rattle.rules.specs.Table.{variables, flagged, body, effectFlag, procedures, statementAt, isLeave}
@@ -21,11 +21,11 @@ use Rattle.rules.proofs.AnswerLaws.{both-left, both-true}
 use Rattle.rules.proofs.ChoiceLaws.{bool-cases}
 use Rattle.rules.proofs.Formed.{Formed, Enclosed}
 use Rattle.rules.proofs.Judged.{Judged}
+use Rattle.rules.proofs.LiveLaws.{effectful, effect-live}
 use Rattle.rules.proofs.LoopLaws.{Inside, nearest-loop}
 use Rattle.rules.proofs.SingleLaws.{single-value}
 use Rattle.rules.proofs.StackLaws.{stack, stackOf, stackOf-kept, stack-top, stack-popped, stack-replaced, stack-pushed}
 use Rattle.rules.proofs.StackLaws.{set-depth, set-entry, replaced-length, replaced-depth, droppedTo, unwound-below, stack-unwound}
-use Rattle.rules.proofs.ValueLaws.{effect-at}
 use Rattle.rules.proofs.View.{View, viewOf, visible, visible-effect, adding, loud, withPending, withVariable}
 use Rattle.rules.proofs.View.{viewAdvanced, viewStepOn, Reached, reached-step}
 use Rattle.rules.proofs.ViewLaws.{SameShown, view-kept, popped-shown, replaced-shown, pushed-shown, set-high-shown}
@@ -60,13 +60,13 @@ unflagged-body : (table : List ℕ) (formed : Formed table) (judged : Judged tab
     → effectFlag table p ≡ false → visible table (body table p) ≡ false
 unfolding bodyFlagged
 unflagged-body table formed judged p l f =
-    denied (visible table (body table p)) (effect table (body table p)) (visible-procedure table formed p l)
-    (not-or-false (effect table (body table p)) (effectFlag table p) (judged .body-flagged p l) f)
+    denied (visible table (body table p)) (effectful table (body table p)) (visible-procedure table formed p l)
+    (not-or-false (effectful table (body table p)) (effectFlag table p) (judged .body-flagged p l) f)
 
 module _ (table : List ℕ) (formed : Formed table) (enclosed : Enclosed table) (judged : Judged table) (words : List ℕ)
     (own count : ℕ) (few : count ≤ mostProcesses)
     (sized : length words ≡ processWords) (some : 0 < depth words) (most : depth words ≤ stackPlaces)
-    (inside : Inside table (top words) (stackOf words (depth words - 1))) where
+    (inside : Inside table (top words) (stackOf words (depth words - 1))) (alive : live table (top words) ≡ true) where
   -- the entries below the top
   abbrev rest : List ℕ
   rest = stackOf words (depth words - 1)
@@ -141,7 +141,7 @@ module _ (table : List ℕ) (formed : Formed table) (enclosed : Enclosed table) 
 
   -- a statement that is not visible
   quiet-view : (s : Statement) → statementAt table (top words) ≡ s → statementFits table (top words) s ≡ true
-      → visible table (top words) ≡ false → effectOf table (effect table) s ≡ false
+      → visible table (top words) ≡ false → effectOf table (effectful table) s ≡ false
       → (needsPlace table env s ≡ true → depth words < stackPlaces)
       → viewOf table (advanced table env words s) ≡ withPending (viewOf table words) (loud table rest)
   unfolding statementFits effectOf needsPlace advanced openParts
@@ -174,7 +174,7 @@ module _ (table : List ℕ) (formed : Formed table) (enclosed : Enclosed table) 
       let (a, b, t, o) = nearest-loop table formed (top words) (enclosed (top words) s) in
       leave-view s
       ∙ ap (withPending (viewOf table words))
-      (dropped-quiet table formed (nearestLoop table (top words)) a b t (leave-quiet table formed (top words) s q) rest
+      (dropped-quiet table formed (nearestLoop table (top words)) a b t (leave-quiet table formed (top words) s alive q) rest
       (inside (enclosed (top words) s)))
 
   abbrev seen : View
@@ -202,15 +202,15 @@ module _ (table : List ℕ) (formed : Formed table) (enclosed : Enclosed table) 
 
   -- a visible statement that is no leave and has no part in its while has an effect
   plainly : (s : Statement) → statementAt table (top words) ≡ s → visible table (top words) ≡ true → isLeave s ≡ false
-      → openParts s ≡ [] → effectOf table (effect table) s ≡ true
+      → openParts s ≡ [] → effectOf table (effectful table) s ≡ true
   plainly s e v f none =
-      sym (ap (effectOf table (effect table)) e)
-      ∙ (sym (effect-at table formed (top words))
+      sym (ap (effectOf table (effectful table)) e)
+      ∙ (sym (effect-live table formed (top words) alive)
       ∙ visible-plain table formed (top words) (ap isLeave e ∙ f) (ap openParts e ∙ none) v)
 
   -- a visible statement
   loud-view : (s : Statement) → statementAt table (top words) ≡ s → statementFits table (top words) s ≡ true
-      → visible table (top words) ≡ true → ruleOf table s .holds ≡ true
+      → visible table (top words) ≡ true → ruleOf table (counted table) s .holds ≡ true
       → (needsPlace table env s ≡ true → depth words < stackPlaces)
       → viewOf table (advanced table env words s) ≡ viewAdvanced table count seen (top words) (loud table rest) s
   unfolding statementFits effectOf needsPlace advanced ruleOf viewAdvanced openParts
@@ -231,7 +231,7 @@ module _ (table : List ℕ) (formed : Formed table) (enclosed : Enclosed table) 
       loop-view a b room q
       ∙ ap (λ x. withPending seen (cond (eqb x 0) (loud table rest) (adding table b (top words ∷ loud table rest))))
       (single-value table formed words own count few a
-      (loop-single (single table a) (leftLocally table b) (effect table b) r (plainly (loop a b) s q refl refl)))
+      (loop-single (single table a) (leftLocally table (counted table) b) (effectful table b) r (plainly (loop a b) s q refl refl)))
   loud-view (call p) s h q r room = replaced-view (body table p)
   loud-view (latch a b) s h q r room = latch-view (value table env a) (value table env b)
   loud-view (collective k) s h q r room = refl
@@ -255,7 +255,7 @@ module _ (table : List ℕ) (formed : Formed table) (enclosed : Enclosed table) 
       subst (Reached table count g)
       (ap (viewStepOn table count seen) pending
       ∙ sym
-      (loud-view (statementAt table (top words)) refl (formed .statement-fits (top words)) e (judged .rule-holds (top words)) room))
+      (loud-view (statementAt table (top words)) refl (formed .statement-fits (top words)) e (judged .rule-holds (top words) alive) room))
       (reached-step table count g seen reached))
       (λ (e : visible table (top words) ≡ false).
       let pending : loud table (stack words) ≡ loud table rest =
@@ -263,8 +263,8 @@ module _ (table : List ℕ) (formed : Formed table) (enclosed : Enclosed table) 
       subst (Reached table count g)
       (sym
       (quiet-view (statementAt table (top words)) refl (formed .statement-fits (top words)) e
-      (sym (effect-at table formed (top words))
-      ∙ denied (effect table (top words)) (visible table (top words)) (visible-effect table (top words)) e)
+      (sym (effect-live table formed (top words) alive)
+      ∙ denied (effectful table (top words)) (visible table (top words)) (visible-effect table (top words)) e)
       room
       ∙ ap (withPending seen) (sym pending)))
       reached)

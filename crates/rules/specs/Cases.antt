@@ -23,6 +23,7 @@ use Rattle.rules.specs.Collective
 use Rattle.rules.specs.Evaluation
 use Rattle.rules.specs.Evaluation.{Environment, value}
 use Rattle.rules.specs.Judgement
+use Rattle.rules.specs.Judgement.{fixing, fixed, unfixed}
 use Rattle.rules.specs.Process
 use Rattle.rules.specs.Process.{depthAt, stackAt, stackPlaces, processWords, processAt}
 use Rattle.rules.specs.Run
@@ -57,7 +58,7 @@ answer event team = Taken (record { event = event; team = team })
 
 -- opens every definition of the rules, so that a case computes
 opened : ℕ
-unfolding bytes verdict startOn run answer Choice.firstFailing Choice.allBelow Below.below Below.atNode Table.wordAt Table.edition Table.variables Table.procedures Table.nodes Table.flagged Table.procedureWord Table.body Table.effectFlag Table.mainBody Table.unpacked Table.nodeAt Table.expressionOf Table.statementOf Table.expressionAt Table.statementAt WellFormed.headerFits WellFormed.procedureFits WellFormed.isExpression WellFormed.isStatement WellFormed.kindKnown WellFormed.namedFields WellFormed.unnamedZero WellFormed.expressionPart WellFormed.statementPart WellFormed.expressionFits WellFormed.collectiveFits WellFormed.statementFits WellFormed.nodeFits WellFormed.expressionParts WellFormed.collectiveParts WellFormed.statementParts WellFormed.partsAt WellFormed.joined WellFormed.uses WellFormed.occurrences WellFormed.usedOnce WellFormed.someOf WellFormed.inTree WellFormed.calledBelow WellFormed.openParts WellFormed.openly WellFormed.loopAround WellFormed.nearestLoop WellFormed.leaveEnclosed WellFormed.wellBuilt WellFormed.wellFormed Judgement.singleOf Judgement.single Judgement.effectOf Judgement.effect Judgement.holdsLeave Judgement.localIf Judgement.leftLocally Acceptance.ruleOf Acceptance.bodyFlagged Acceptance.judged Acceptance.checked Acceptance.checkedScratch Evaluation.applied Evaluation.valueOf Evaluation.value Process.processAt Process.withProcess Process.eachProcess Process.depth Process.top Process.popped Process.replaced Process.pushed Process.unwound Process.advanced Process.needsPlace Arrivals.statusAt Arrivals.arrivalNode Arrivals.arrivalValue Arrivals.arrivalSource Arrivals.withArrival Arrivals.eachArrival Arrivals.teamStatus Arrivals.allAtOneNode Collective.arrivalOf Collective.gatheredFrom Collective.received Collective.completedState Collective.releasedRoll Start.startSize Start.startVerdict Start.startWords Start.startProcess Start.startState Start.startRoll Start.startedBy Start.started Start.latchesOf Step.processesIn Step.stackFits Step.fieldsZero Step.lackedZero Step.waitFits Step.leaveFits Step.recordFits Step.processFits Step.placeLacked Step.teamVerdict Step.stepVerdict Step.moved Step.completed Step.arrivedAt Step.stepRunning Step.stepTaken Step.steppedBy Step.stepped Run.afterTurns Run.answers Run.collectives Scheduling.passedOver Scheduling.nextProcess Scheduling.serving Scheduling.servedBy Scheduling.served Scheduling.chosen Scheduling.chosenBy Scheduling.chosenIn
+unfolding bytes verdict startOn run answer Choice.firstFailing Choice.allBelow Below.below Below.atNode Table.wordAt Table.edition Table.variables Table.procedures Table.nodes Table.flagged Table.procedureWord Table.body Table.effectFlag Table.mainBody Table.unpacked Table.nodeAt Table.expressionOf Table.statementOf Table.expressionAt Table.statementAt WellFormed.headerFits WellFormed.procedureFits WellFormed.isExpression WellFormed.isStatement WellFormed.kindKnown WellFormed.namedFields WellFormed.unnamedZero WellFormed.expressionPart WellFormed.statementPart WellFormed.expressionFits WellFormed.collectiveFits WellFormed.statementFits WellFormed.nodeFits WellFormed.expressionParts WellFormed.collectiveParts WellFormed.statementParts WellFormed.partsAt WellFormed.joined WellFormed.uses WellFormed.occurrences WellFormed.usedOnce WellFormed.someOf WellFormed.inTree WellFormed.calledBelow WellFormed.openParts WellFormed.openly WellFormed.loopAround WellFormed.nearestLoop WellFormed.leaveEnclosed WellFormed.wellBuilt WellFormed.wellFormed Judgement.singleOf Judgement.single Judgement.bothFixed Judgement.fixingOf Judgement.fixing Judgement.neverTaken Judgement.deadIn Judgement.live Judgement.counted Judgement.effectOf Judgement.effect Judgement.holdsLeave Judgement.localIf Judgement.leftLocally Acceptance.ruleOf Acceptance.bodyFlagged Acceptance.judgedBy Acceptance.checked Acceptance.checkedScratch Evaluation.applied Evaluation.valueOf Evaluation.value Process.processAt Process.withProcess Process.eachProcess Process.depth Process.top Process.popped Process.replaced Process.pushed Process.unwound Process.advanced Process.needsPlace Arrivals.statusAt Arrivals.arrivalNode Arrivals.arrivalValue Arrivals.arrivalSource Arrivals.withArrival Arrivals.eachArrival Arrivals.teamStatus Arrivals.allAtOneNode Collective.arrivalOf Collective.gatheredFrom Collective.received Collective.completedState Collective.releasedRoll Start.startSize Start.startVerdict Start.startWords Start.startProcess Start.startState Start.startRoll Start.startedBy Start.started Start.latchesOf Step.processesIn Step.stackFits Step.fieldsZero Step.lackedZero Step.waitFits Step.leaveFits Step.recordFits Step.processFits Step.placeLacked Step.teamVerdict Step.stepVerdict Step.moved Step.completed Step.arrivedAt Step.stepRunning Step.stepTaken Step.steppedBy Step.stepped Run.afterTurns Run.answers Run.collectives Scheduling.passedOver Scheduling.nextProcess Scheduling.serving Scheduling.servedBy Scheduling.served Scheduling.chosen Scheduling.chosenBy Scheduling.chosenIn
 opened = 0
 
 -- T1: if own number then barrier else nothing
@@ -98,22 +99,23 @@ t1-no-variables : verdict (set t1 0 0x10020400) ≡ refused 3 0
 unfolding opened t1
 t1-no-variables = refl
 
--- "Number 1 is now for fewer than 24 words", asked first, of a table that 4 would refuse; such a call leaves the words
-short-scratch : checked (bytes (take 6 t1)) (replicate 23 7) ≡ refused 1 0
+-- "The scratch is 32 words .. in number 1 and in what is zeroed": 1 is asked first, of a table that 4 would refuse; such a call
+-- leaves the words
+short-scratch : checked (bytes (take 6 t1)) (replicate 31 7) ≡ refused 1 0
 unfolding opened t1
 short-scratch = refl
 
-short-scratch-left : checkedScratch (replicate 23 7) ≡ replicate 23 7
+short-scratch-left : checkedScratch (replicate 31 7) ≡ replicate 31 7
 unfolding opened
 short-scratch-left = refl
 
--- 24 words are enough, whatever they hold
-full-scratch : checked (bytes t2) (replicate 24 7) ≡ Accepted
+-- 32 words are enough, whatever they hold
+full-scratch : checked (bytes t2) (replicate 32 7) ≡ Accepted
 unfolding opened t1 t2
 full-scratch = refl
 
--- "only the first 24 are zeroed; the rest keep their contents"
-long-scratch-left : checkedScratch (replicate 26 7) ≡ replicate 24 0 ++ 7 ∷ 7 ∷ []
+-- later words keep their contents
+long-scratch-left : checkedScratch (replicate 34 7) ≡ replicate 32 0 ++ 7 ∷ 7 ∷ []
 unfolding opened
 long-scratch-left = refl
 
@@ -411,3 +413,87 @@ serve-full = refl
 serve-full-first : serve-made-up 1 (standing stackPlaces []) ≡ (0, (0, refused 24 0))
 unfolding opened stocktake search-loop serve-made-up standing
 serve-full-first = refl
+
+-- switches: "Of an if with a fixed condition only the branch that will be taken is put to questions 13 to 16"
+
+-- if 0 then (if own number then barrier else nothing) else nothing
+switched-off : List ℕ
+switched-off =
+    0x10420700 ∷ 0 ∷ 0x06000000
+    ∷ 0x00000000 ∷ 0x10000000 ∷ 0xB8000000 ∷ 0x80000000 ∷ 0x98040403 ∷ 0x80000000 ∷ 0x98000805 ∷ []
+
+switched-off-accepted : verdict switched-off ≡ Accepted
+unfolding opened switched-off
+switched-off-accepted = refl
+
+-- with 1 for 0 the barrier's branch will be taken
+switched-on-refused : verdict (set switched-off 3 0x00000001) ≡ refused 15 4
+unfolding opened switched-off
+switched-on-refused = refl
+
+-- the number of banks is single and not fixed
+bank-switch-refused : verdict (set switched-off 3 0x18000000) ≡ refused 15 4
+unfolding opened switched-off
+bank-switch-refused = refl
+
+bank-switch-unfixed : fixing (bytes (set switched-off 3 0x18000000)) 0 ≡ unfixed
+unfolding opened switched-off
+bank-switch-unfixed = refl
+
+-- the other branch of a switch that is on: if 9 divided by 0 equals 0 then nothing else (as above)
+worked-out : List ℕ
+worked-out =
+    0x10420B00 ∷ 0 ∷ 0x0A000000
+    ∷ 0x00000009 ∷ 0x00000000 ∷ 0x48000200 ∷ 0x00000000 ∷ 0x58080600
+    ∷ 0x10000000 ∷ 0xB8000000 ∷ 0x80000000 ∷ 0x98140C07 ∷ 0x80000000 ∷ 0x98101208 ∷ []
+
+worked-out-fixed : fixing (bytes worked-out) 4 ≡ fixed 1
+unfolding opened worked-out
+worked-out-fixed = refl
+
+worked-out-accepted : verdict worked-out ≡ Accepted
+unfolding opened worked-out
+worked-out-accepted = refl
+
+-- "counted for effects": if 0 then (variable 0, which is single, takes the own number) else nothing, in a procedure without flag
+dead-assignment : List ℕ
+dead-assignment =
+    0x10420500 ∷ 0x80000000 ∷ 0x04000000
+    ∷ 0x00000000 ∷ 0x10000000 ∷ 0x88000200 ∷ 0x80000000 ∷ 0x98000403 ∷ []
+
+dead-assignment-accepted : verdict dead-assignment ≡ Accepted
+unfolding opened dead-assignment
+dead-assignment-accepted = refl
+
+live-assignment-refused : verdict (set dead-assignment 3 0x00000001) ≡ refused 13 2
+unfolding opened dead-assignment
+live-assignment-refused = refl
+
+-- a single value passes 13, and 17 asks for the flag
+live-effect-refused : verdict (set (set dead-assignment 3 0x00000001) 4 0x18000000) ≡ refused 17 0
+unfolding opened dead-assignment
+live-effect-refused = refl
+
+-- "26 is still put to both": if 0 then leave else nothing
+dead-leave : List ℕ
+dead-leave = 0x10420400 ∷ 0 ∷ 0x03000000 ∷ 0x00000000 ∷ 0xD0000000 ∷ 0x80000000 ∷ 0x98000202 ∷ []
+
+dead-leave-refused : verdict dead-leave ≡ refused 26 1
+unfolding opened dead-leave
+dead-leave-refused = refl
+
+-- "counted .. for U1's own conditions": while 1: (if own number then (if 0 then leave else nothing) else nothing), then barrier
+switched-leave : List ℕ
+switched-leave =
+    0x10420B00 ∷ 0 ∷ 0x0A800000
+    ∷ 0x00000001 ∷ 0x10000000 ∷ 0x00000000 ∷ 0xD0000000 ∷ 0x80000000 ∷ 0x98080604 ∷ 0x80000000 ∷ 0x98040A06
+    ∷ 0xB8000000 ∷ 0x901C1000 ∷ 0xA0001200 ∷ []
+
+switched-leave-accepted : verdict switched-leave ≡ Accepted
+unfolding opened switched-leave
+switched-leave-accepted = refl
+
+-- where the number of banks stands for 0, the leave may be reached
+reached-leave-refused : verdict (set switched-leave 5 0x18000000) ≡ refused 16 10
+unfolding opened switched-leave
+reached-leave-refused = refl

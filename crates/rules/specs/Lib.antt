@@ -1,14 +1,14 @@
 -- The definitions that a reader must believe: a file a chapter of the rules paper, in its order. "The paper" in the comments
--- is the rules paper; a quotation is the sentence that the definition stands for. Three are no chapters of it: Scheduling is request
--- U4, and by Buffered and Scratch claims of requests U3 and U5 are stated.
+-- is the rules paper; a quotation is the sentence that the definition stands for. Four are no chapters of it: Scheduling is request
+-- U4, and by Buffered, Scratch and Switches claims of requests U3, U5 and U7 are stated.
 pub mod Choice
 pub mod Below
 pub mod Answers
 pub mod Table
 pub mod WellFormed
+pub mod Evaluation
 pub mod Judgement
 pub mod Acceptance
-pub mod Evaluation
 pub mod Process
 pub mod Arrivals
 pub mod Collective
@@ -18,4 +18,5 @@ pub mod Run
 pub mod Scheduling
 pub mod Buffered
 pub mod Scratch
+pub mod Switches
 pub mod Cases

@@ -29,7 +29,7 @@ AnyScratch =
     (table scratch other : List ℕ) → scratchWords ≤ length scratch → scratchWords ≤ length other
     → checked table scratch ≡ checked table other
 
--- "only the first 24 are zeroed; the rest keep their contents"; where there are fewer, all are as lent
+-- "only the first 24 are zeroed; the rest keep their contents", with the 32 of request U7; where there are fewer, all are as lent
 pub record Left (scratch after : List ℕ) : Type 0 where
   pub size : length after ≡ length scratch
   pub zeroed : scratchWords ≤ length scratch → (i : ℕ) → i < scratchWords → getD after i 0 ≡ 0

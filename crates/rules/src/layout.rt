@@ -45,7 +45,7 @@ pub const MOST_TABLE_BYTES: usize = 1096;
 
 pub const ARRIVAL_WORDS: usize = 4;
 
-pub const SCRATCH_WORDS: usize = 24;
+pub const SCRATCH_WORDS: usize = 32;
 
 pub const MOST_PROCESSES: usize = 16;
 

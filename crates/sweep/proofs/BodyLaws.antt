@@ -1,4 +1,4 @@
--- The procedures: no step raises the least refusal, and what the sweep kept of a body says whether it passes 17.
+-- The procedures: no step raises the least refusal, and the bit of a body says whether it passes 17.
 use mathlib.Core.Bool.{Bool, true, false, cond, not, _||_}
 use mathlib.Core.List.{List}
 use mathlib.Core.Path.{_≡_, refl, _∙_, ap}
@@ -7,24 +7,20 @@ use native.Mathlib.Omega.{arith}
 use lib.Dec.{ltb}
 use lib.ListN.{length}
 use borrow.Rule.Slice.PartMut.{midOf}
-use Rattle.rules.specs.Acceptance.{bodyFlagged}
-use Rattle.rules.specs.Judgement.{effect}
 use Rattle.rules.specs.Table.{procedures, nodes, body, effectFlag}
 use Rattle.rules.specs.WellFormed.{procedureFits, isStatement}
 use Rattle.table.specs.declared.Header.{Header}
 use Rattle.table.specs.Marks.{bitAt}
 use Rattle.table.specs.Sized.{Sized}
 use Rattle.visit.specs.Exact.{notedCode}
-use Rattle.visit.specs.Facts.{flagCode, FactsTo}
 use Rattle.visit.specs.Fields.{factsPlane, planeWords, allPlanes}
 use Rattle.visit.specs.Least.{none, code, failure}
-use Rattle.visit.proofs.FactLaws.{fact-statement}
 use Rattle.visit.proofs.PlaneLaws.{facts-lent, facts-length}
 use Rattle.visit.proofs.StuckLaws.{noted-low}
-use Rattle.sweep.specs.Asked.{Filled}
+use Rattle.sweep.specs.Asked.{Filled, effectCode}
 use Rattle.sweep.specs.Swept.{bodyBest, unusedBest, AfterBodies, Uses}
 use Rattle.sweep.proofs.EndLaws.{swept-verdict}
-use Rattle.sweep.proofs.FormedLaws.{fits, body-sort}
+use Rattle.sweep.proofs.FormedLaws.{fits}
 
 -- no step raises the least refusal
 
@@ -64,7 +60,7 @@ uses-met {table} {marks} {header} {first} {best} {r} sized swept lower e =
       lower = omega (arith, is, unused-lower (nodes table) marks best);
     }
 
--- the body of a procedure of a table that passes 6 to 11: its fact is its effect
+-- the body of a procedure of a table that passes 6 to 11
 module _ {table : List ℕ} {header : Header} (filled : Filled table header) {p : ℕ} (l : p < header .procedures) where
   below : p < procedures table
   below = omega (arith, filled .sized .procedures-read)
@@ -78,27 +74,24 @@ module _ {table : List ℕ} {header : Header} (filled : Filled table header) {p 
     body-lent e =
         omega (arith, e, body-below, filled .sized .nodes-high, ap length (facts-lent planes size), facts-length planes size)
 
-    pub marked-effect : {r : Bool} {n : ℕ} → FactsTo table (nodes table) (factsPlane planes) → n ≡ body table p
-        → r ≡ bitAt (midOf planeWords planeWords planes) n
-        → r ≡ effect table (body table p)
-    marked-effect facts e is =
-        let here : _ ≡ bitAt (factsPlane planes) (body table p) = rw (facts-lent planes size, e) at is in
-        here ∙ facts .known (body table p) body-below ∙ fact-statement table (body table p) (body-sort filled p below)
+    pub marked-body : {r : Bool} {n : ℕ} → n ≡ body table p → r ≡ bitAt (midOf planeWords planeWords planes) n
+        → r ≡ bitAt (factsPlane planes) (body table p)
+    marked-body e is = rw (facts-lent planes size, e) at is
 
--- question 17 of a procedure by the effect of its body and by its flag
-module _ (table : List ℕ) (p : ℕ) where
-  pub flag-local : effect table (body table p) ≡ false → flagCode table p ≡ none
-  unfolding flagCode bodyFlagged
+-- question 17 of a procedure by the bit of its body and by its flag
+module _ (table facts : List ℕ) (p : ℕ) where
+  pub flag-local : bitAt facts (body table p) ≡ false → effectCode table facts p ≡ none
+  unfolding effectCode
   flag-local e = simp e
 
-  pub flag-set : effectFlag table p ≡ true → flagCode table p ≡ none
-  unfolding flagCode bodyFlagged
-  flag-set e = rw e (either (effect table (body table p)))
+  pub flag-set : effectFlag table p ≡ true → effectCode table facts p ≡ none
+  unfolding effectCode
+  flag-set e = rw e (either (bitAt facts (body table p)))
     where
       either : (x : Bool) → failure 17 p (not x || true) ≡ none
       either true = refl
       either false = refl
 
-  pub flag-missing : effect table (body table p) ≡ true → effectFlag table p ≡ false → flagCode table p ≡ code 17 p
-  unfolding flagCode bodyFlagged
+  pub flag-missing : bitAt facts (body table p) ≡ true → effectFlag table p ≡ false → effectCode table facts p ≡ code 17 p
+  unfolding effectCode
   flag-missing e f = simp (e, f)

@@ -1,33 +1,37 @@
 -- The questions in the parts that the code asks them in.
 use mathlib.Core.Bool.{Bool, true, false}
 use mathlib.Core.List.{List}
-use mathlib.Core.Path.{_≡_, _∙_, sym}
+use mathlib.Core.Logic.{_⊎_}
+use mathlib.Core.Path.{_≡_, refl, _∙_, sym}
 use Prim.Native.Nat.{ℕ, _≤_, _<_, min}
 use native.Mathlib.Omega.{arith}
 use borrow.Author.Tests.{lt-ltb, le-ltb}
 use Rattle.rules.specs.declared.Refusal.{Refusal}
 use Rattle.rules.specs.declared.Verdict.{Verdict}
 use Rattle.rules.specs.declared.Verdict.the-variants.{Accepted, Refused}
-use Rattle.rules.specs.Acceptance.{judged}
+use Rattle.rules.specs.Acceptance.{bodyFlagged, judgedBy}
 use Rattle.rules.specs.Answers.{refused, _then_}
 use Rattle.rules.specs.Choice.{firstFailing}
-use Rattle.rules.specs.Table.{procedures, nodes, body, statementAt}
-use Rattle.rules.specs.WellFormed.{isStatement, calledBelow, leaveEnclosed, wellBuilt, wellFormed}
+use Rattle.rules.specs.Table.{procedures, nodes, nodeAt, body, expressionAt, statementAt, Statement, nothing}
+use Rattle.rules.specs.WellFormed.{isStatement, unnamedZero, expressionFits, statementFits, nodeFits, calledBelow, leaveEnclosed, wellBuilt, wellFormed}
 use Rattle.rules.specs.WellFormed.{question6, question7, question8, question9, question10, question11, question12}
 use Rattle.rules.specs.WellFormed.{question26}
-use Rattle.rules.proofs.AnswerLaws.{then-first, then-rest, each-passed}
+use Rattle.rules.proofs.AnswerLaws.{both-right, then-first, then-rest, each-passed}
 use Rattle.rules.proofs.ChoiceLaws.{first-none}
 use Rattle.table.specs.declared.Header.{Header}
+use Rattle.table.specs.Header.{headerOf}
 use Rattle.table.specs.Sized.{Sized, shapeVerdict}
 use Rattle.table.specs.Uses.{Fitting}
 use Rattle.table.proofs.FittingLaws.{fitting}
+use Rattle.table.proofs.ShapeLaws.{sized}
 use Rattle.table.proofs.PlaceLaws.{each-refused, each-accepted, then-assoc}
 use Rattle.leaves.specs.Leaves.{leftCode}
 use Rattle.leaves.proofs.RuleLaws.{rule-whole}
-use Rattle.visit.specs.Facts.{ruleCode, guardCode, flagCode}
+use Rattle.visit.specs.Facts.{ruleCode, guardCode, flagCode, FactsTo}
 use Rattle.visit.specs.Least.{none, leastBelow, verdictOf}
+use Rattle.visit.proofs.FactLaws.{fact-statement}
 use Rattle.visit.proofs.LeastLaws.{least-same, least-both}
-use Rattle.sweep.specs.Asked.{Filled, callsAsked, asked}
+use Rattle.sweep.specs.Asked.{Filled, effectCode, callsAsked, asked}
 use Rattle.sweep.specs.Swept.{filledVerdict, Uses}
 use Rattle.sweep.proofs.JudgedLaws.{rule-high, judged-least}
 
@@ -46,9 +50,15 @@ module _ (strictly : Bool) (table : List ℕ) where
 
 -- a table that passes 2 to 11
 module _ {table : List ℕ} {header : Header} (filled : Filled table header) where
-  after8 : (question9 table then (question10 table then question11 table)) ≡ Accepted
+  after7 : (question8 table then (question9 table then (question10 table then question11 table))) ≡ Accepted
   unfolding filledVerdict
-  after8 = then-rest (question8 table) _ (then-rest (question7 table) _ (then-rest (question6 table) _ (filled .passed)))
+  after7 = then-rest (question7 table) _ (then-rest (question6 table) _ (filled .passed))
+
+  after8 : (question9 table then (question10 table then question11 table)) ≡ Accepted
+  after8 = then-rest (question8 table) _ after7
+
+  pub zero-fields : (n : ℕ) → n < nodes table → unnamedZero (nodeAt table n) ≡ true
+  zero-fields = each-passed 8 (nodes table) (λ n. unnamedZero (nodeAt table n)) (then-first (question8 table) _ after7)
 
   pub fits : Fitting table header
   unfolding filledVerdict
@@ -67,11 +77,51 @@ module _ {table : List ℕ} {header : Header} (filled : Filled table header) whe
       let test : ℕ → Bool = λ n. calledBelow table n (statementAt table n) in
       filled .sized .nodes-read ∙ sym (first-none test (nodes table) (each-passed 12 (nodes table) test passed))
 
--- 13 to 17 from the least refusal
-module _ {table : List ℕ} {header : Header} (sized : Sized table header) {least : ℕ}
-    (found : least ≡ min (leastBelow (ruleCode table) (nodes table)) (leastBelow (flagCode table) (procedures table))) where
-  pub judged-verdict : (verdictOf least ≡ judged table) × (least ≤ none)
-  judged-verdict = rw found (judged-least table (omega (arith, sized .nodes-high)) (omega (arith, sized .procedures-high)))
+-- 13 to 17 by a reading, from the plane of facts and the least refusal of 13 to 16, without and with a look at leaves
+module _ {table : List ℕ} {header : Header} (filled : Filled table header) (reading : ℕ → Statement)
+    (each : (k : ℕ) → (reading k ≡ statementAt table k) ⊎ (reading k ≡ nothing)) {facts : List ℕ}
+    (kept : FactsTo table reading (nodes table) facts) where
+  effect-flag : (p : ℕ) → p < procedures table → effectCode table facts p ≡ flagCode table reading p
+  unfolding effectCode flagCode bodyFlagged
+  effect-flag p l =
+      rw (kept .known (body table p) (fits filled .bodies p l), fact-statement table reading (body table p) (body-sort filled p l))
+
+  rules-whole : min (leastBelow (guardCode table reading) (nodes table)) (leastBelow (leftCode table reading) (nodes table))
+      ≡ leastBelow (ruleCode table reading) (nodes table)
+  unfolding nodeFits
+  rules-whole =
+      sym (least-both (guardCode table reading) (leftCode table reading) (nodes table))
+      ∙ least-same (λ n. min (guardCode table reading n) (leftCode table reading n)) (ruleCode table reading) (nodes table)
+      (λ n l.
+      let few : n < 65536 = omega (arith, filled .sized .nodes-high) in
+      rule-whole table reading n few each
+      (both-right (expressionFits table n (expressionAt table n)) (statementFits table n (statementAt table n)) (fits filled .fits n l))
+      (rule-high table reading n few))
+
+  pub judged-verdict : {guards rule least : ℕ} → guards ≡ leastBelow (guardCode table reading) (nodes table)
+      → rule ≡ min guards (leastBelow (leftCode table reading) (nodes table))
+      → least ≡ min rule (leastBelow (effectCode table facts) (procedures table))
+      → verdictOf least ≡ judgedBy table reading
+  judged-verdict of-guards of-leaves found =
+      let flags = least-same (effectCode table facts) (flagCode table reading) (procedures table) effect-flag in
+      let sized = filled .sized in
+      rw (found, of-leaves, of-guards, rules-whole, flags)
+      (judged-least table reading (omega (arith, sized .nodes-high)) (omega (arith, sized .procedures-high)) .0)
+
+-- a well-formed table passes 2 to 11
+pub well-filled : {table : List ℕ} {header : Header} → wellFormed table ≡ Accepted → header ≡ headerOf table → Filled table header
+unfolding asked
+well-filled {table} well headed =
+    let parts : (shapeVerdict table then (filledVerdict table then callsAsked false table)) ≡ Accepted =
+    sym (in-parts false table) ∙ rw well refl in
+    let shaped = then-first (shapeVerdict table) (filledVerdict table then callsAsked false table) parts in
+    record {
+      sized = rw headed (sized table shaped);
+      shaped = shaped;
+      passed =
+          then-first (filledVerdict table) (callsAsked false table)
+          (then-rest (shapeVerdict table) (filledVerdict table then callsAsked false table) parts);
+    }
 
 -- a table that passes 2 to 12
 pub well-built : {table : List ℕ} {header : Header} → Filled table header → question12 table ≡ Accepted
@@ -111,7 +161,7 @@ module _ {table : List ℕ} {header : Header} (sized : Sized table header) {call
     unfolding callsAsked
     unjudged l e = simp (accepted12 past, accepted26 l, e)
 
-    pub judged-next : header .nodes ≤ leave → strictly ≡ true → judged table ≡ callsAsked strictly table
+    pub judged-next : header .nodes ≤ leave → strictly ≡ true → judgedBy table (statementAt table) ≡ callsAsked strictly table
     unfolding callsAsked
     judged-next l e = simp (accepted12 past, accepted26 l, e)
 
@@ -128,12 +178,3 @@ module _ {table : List ℕ} {first best : ℕ} (uses : Uses table first best) wh
 
   pub passes-on : none ≤ best → (next : Verdict) → next ≡ (filledVerdict table then next)
   passes-on l next = simp (passes l)
-
--- 13 to 16 with and without a look at leaves
-pub rules-whole : {table : List ℕ} {header : Header} → Sized table header
-    → min (leastBelow (guardCode table) (nodes table)) (leastBelow (leftCode table) (nodes table))
-    ≡ leastBelow (ruleCode table) (nodes table)
-rules-whole {table} sized =
-    sym (least-both (guardCode table) (leftCode table) (nodes table))
-    ∙ least-same (λ n. min (guardCode table n) (leftCode table n)) (ruleCode table) (nodes table)
-    (λ n l. rule-whole table n (omega (arith, sized .nodes-high)) (rule-high table n (omega (arith, sized .nodes-high))))

@@ -1,7 +1,7 @@
 -- The loops over the nodes: what a visit adds, and where they begin.
 use mathlib.Core.Bool.{true, false, cond}
 use mathlib.Core.List.{List}
-use mathlib.Core.Logic.{⊎-elim}
+use mathlib.Core.Logic.{_⊎_, inl, inr, ⊎-elim}
 use mathlib.Core.Path.{_≡_, refl, sym, _∙_, ap}
 use Prim.Native.Nat.{ℕ, _+_, _≤_, _<_, min}
 use native.Mathlib.Decide.{decLt}
@@ -10,26 +10,30 @@ use lib.Dec.{ltb}
 use lib.ListN.{length, replicate}
 use borrow.Author.Tests.{ltb-true}
 use borrow.Rule.Slice.PartMut.{putMid}
-use Rattle.rules.specs.Table.{procedures, nodes, body}
+use Rattle.rules.specs.Table.{procedures, nodes, body, statementAt, Statement}
+use Rattle.rules.specs.WellFormed.{partsAt, occurrences}
 use Rattle.rules.proofs.ChoiceLaws.{bool-cases}
+use Rattle.rules.proofs.LoopLaws.{either-cases}
 use Rattle.calls.specs.Blocks.{Blocks, more}
 use Rattle.calls.specs.Blocks
 use Rattle.calls.proofs.BlockLaws.{blocks-called}
 use Rattle.table.specs.declared.Header.{Header}
 use Rattle.table.specs.Sized.{Sized}
+use Rattle.table.specs.Marks.{bitAt}
 use Rattle.table.proofs.TestLaws.{never}
+use Rattle.table.proofs.UseLaws.{bits-at}
 use Rattle.visit.specs.declared.Visit.{Visit}
 use Rattle.visit.specs.Exact.{nodeBest, nodeMarks}
-use Rattle.visit.specs.Facts.{guardCode}
+use Rattle.visit.specs.Facts.{Reading, guardCode}
 use Rattle.visit.specs.Fields.{usedPlane, planeWords, allPlanes}
 use Rattle.visit.specs.Least.{none, leastBelow}
 use Rattle.quick.specs.Visited.{Visited}
-use Rattle.visit.proofs.FactLaws.{plane-none}
+use Rattle.visit.proofs.FactLaws.{whole, earlier-of, last-of, plane-none}
 use Rattle.visit.proofs.LeastLaws.{least-more}
 use Rattle.visit.proofs.PlaneLaws.{used-length, used-put-used, facts-put-used, leaves-put-used}
 use Rattle.sweep.specs.declared.Blocked.{Blocked}
 use Rattle.sweep.specs.declared.Reached.{Reached}
-use Rattle.sweep.specs.Nodes.{KeptTo, Fails, Going, Quickly, InBlocks, AllNodes}
+use Rattle.sweep.specs.Nodes.{RuledTo, KeptTo, Fails, Going, Quickly, InBlocks, AllNodes}
 use Rattle.sweep.specs.Swept.{SweptTo}
 use Rattle.sweep.proofs.EndLaws.{quick-swept, swept-none, node-length}
 use Rattle.sweep.proofs.SweptLaws.{node-swept}
@@ -49,7 +53,9 @@ module _ (table : List ℕ) (first : Visit) (end start : ℕ) (before : List ℕ
         low = low;
         marks = λ best swept. swept;
         called = λ k from to. absurd (omega arith);
-        kept = λ so-far. so-far;
+        noted = λ so-far. so-far;
+        ruled = λ reading so-far. so-far;
+        used = λ k l e. inl e;
       }
 
   pub going-more : Sized table (first .header) → end ≤ nodes table
@@ -72,20 +78,38 @@ module _ (table : List ℕ) (first : Visit) (end start : ℕ) (before : List ℕ
           | yes earlier ↦ g .called k from earlier
           | no here ↦ let same : k ≡ n = omega arith in rw same (visited .called taken)
         ];
-        kept = λ so-far.
-            let old = g .kept so-far in
-            let new = visited .facts taken (old .facts) in
+        noted = λ so-far. visited .noted taken (g .noted so-far);
+        ruled = λ reading so-far.
+            let old = g .ruled (earlier-of n reading) so-far in
+            let new = visited .facts taken (last-of n (g .from) reading) (old .facts) in
             record {
-              noted = visited .noted taken (old .noted);
               facts = new .0;
-              least = least ∙ rw (old .least, new .1) (sym (least-more (guardCode table) n));
+              least = least ∙ rw (old .least, new .1) (sym (least-more (guardCode table (reading .counts)) n));
             };
+        used = λ k low e.
+            ⊎-elim
+            (λ (h : bitAt (usedPlane now) k ≡ true). used-before k low h)
+            (λ (h : ltb 0 (occurrences k (partsAt table n)) ≡ true). inr (n, omega arith, omega (arith, ltb-true 0 (occurrences k (partsAt table n)) h)))
+            (either-cases (bitAt (usedPlane now) k) (ltb 0 (occurrences k (partsAt table n)))
+            (sym (bits-at (usedPlane now) (partsAt table n) k (omega (arith, used-length now (g .size))))
+            ∙ rw (visited .taken taken .used) at e));
       }
+    where
+      used-before : (k : ℕ) → k < 256 → bitAt (usedPlane now) k ≡ true
+          → (bitAt (usedPlane before) k ≡ true) ⊎ ((m : ℕ) × (m < n + 1) × (1 ≤ occurrences k (partsAt table m)))
+      used-before k low e =
+          ⊎-elim
+          (λ (h : bitAt (usedPlane before) k ≡ true). inl h)
+          (λ (h : (m : ℕ) × (m < n) × (1 ≤ occurrences k (partsAt table m))). inr (h .0, omega (arith, h .1), h .2))
+          (g .used k low e)
 
 -- before the first node
-kept-none : (table : List ℕ) → KeptTo table 0 none (replicate allPlanes 0)
+pub ruled-none : (table : List ℕ) (reading : ℕ → Statement) → RuledTo table reading 0 none (replicate allPlanes 0)
 unfolding leastBelow
-kept-none table = record { noted = plane-none _; facts = plane-none _; least = refl }
+ruled-none table reading = record { facts = plane-none _; least = refl }
+
+kept-none : (table : List ℕ) → KeptTo table 0 none (replicate allPlanes 0)
+kept-none table = record { noted = plane-none _; ruled = ruled-none table _ }
 
 -- it does not change with the plane of the nodes used
 pub kept-put : {table : List ℕ} {n rule : ℕ} (planes : List ℕ) (size : length planes ≡ allPlanes) (words : List ℕ)
@@ -93,8 +117,20 @@ pub kept-put : {table : List ℕ} {n rule : ℕ} (planes : List ℕ) (size : len
 kept-put planes size words many kept =
     record {
       noted = rw (leaves-put-used planes size words many) (kept .noted);
-      facts = rw (facts-put-used planes size words many) (kept .facts);
-      least = kept .least;
+      ruled =
+          record {
+            facts = rw (facts-put-used planes size words many) (kept .ruled .facts);
+            least = kept .ruled .least;
+          };
+    }
+
+-- where each counts as what it is
+kept-on : {table : List ℕ} {first : Visit} {end start n rule : ℕ} {before after : List ℕ}
+    → Going table first end start before after n rule → KeptTo table (first .node) start before → KeptTo table n rule after
+kept-on {table} {first} {n = n} g so-far =
+    record {
+      noted = g .noted (so-far .noted);
+      ruled = g .ruled (whole table (first .node) n) (so-far .ruled);
     }
 
 -- block by block: the blocks of the procedures below p end before node n
@@ -165,7 +201,7 @@ module _ (table : List ℕ) where
             size = q .going .size;
             low = q .going .low;
             marks = q .going .marks none (b .marks);
-            kept = q .going .kept (b .kept);
+            kept = kept-on (q .going) (b .kept);
             called = λ e. never (sym e);
           }
 
@@ -179,7 +215,7 @@ module _ (table : List ℕ) where
             size = q .going .size;
             low = q .going .low;
             marks = q .going .marks none (b .marks);
-            kept = q .going .kept (b .kept);
+            kept = kept-on (q .going) (b .kept);
             blocks =
                 rw all
                 (more n p (b .blocks) (omega arith) (λ k from to. q .going .called k from (omega arith)));
@@ -210,7 +246,7 @@ module _ (table : List ℕ) (header : Header) (sized : Sized table header) where
         low = q .going .low;
         high = omega arith;
         marks = q .going .marks none (b .marks);
-        kept = λ clean. q .going .kept (b .kept);
+        kept = λ clean. kept-on (q .going) (b .kept);
         stuck = λ inside. q .stuck (omega (arith, sized .nodes-read)) (sized .procedures-read);
       }
 

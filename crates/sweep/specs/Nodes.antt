@@ -1,16 +1,18 @@
 -- What the loops over the nodes establish.
 use mathlib.Core.Bool.{true}
 use mathlib.Core.List.{List}
+use mathlib.Core.Logic.{_⊎_}
 use mathlib.Core.Path.{_≡_}
 use Prim.Native.Nat.{ℕ, _≤_, _<_}
 use lib.ListN.{length}
 use Rattle.rules.specs.declared.Verdict.the-variants.{Accepted}
-use Rattle.rules.specs.Table.{procedures, nodes}
-use Rattle.rules.specs.WellFormed.{question12}
+use Rattle.rules.specs.Table.{procedures, nodes, statementAt, Statement}
+use Rattle.rules.specs.WellFormed.{partsAt, occurrences, question12}
+use Rattle.table.specs.Marks.{bitAt}
 use Rattle.table.specs.Uses.{CallsBelow}
 use Rattle.visit.specs.declared.Visit.{Visit}
 use Rattle.visit.specs.Exact.{nodeBest}
-use Rattle.visit.specs.Facts.{guardCode, FactsTo, NotedTo}
+use Rattle.visit.specs.Facts.{Reading, guardCode, FactsTo, NotedTo}
 use Rattle.visit.specs.Fields.{usedPlane, factsPlane, leavesPlane, allPlanes}
 use Rattle.visit.specs.Least.{none, leastBelow}
 use Rattle.sweep.specs.declared.Blocked.{Blocked}
@@ -18,12 +20,15 @@ use Rattle.sweep.specs.declared.Reached.{Reached}
 use Rattle.sweep.specs.declared.Found.{Found}
 use Rattle.sweep.specs.Swept.{SweptTo, AfterNodes}
 
--- what is kept of the nodes below n: their leaves, their facts, and the least refusal of 13 to 16 at them as far as that does not look at
--- leaves
+-- by a reading, the facts of the nodes below n, and the least refusal of 13 to 16 at them as far as that does not look at leaves
+pub record RuledTo (table : List ℕ) (reading : ℕ → Statement) (n rule : ℕ) (planes : List ℕ) : Type 0 where
+  pub facts : FactsTo table reading n (factsPlane planes)
+  pub least : rule ≡ leastBelow (guardCode table reading) n
+
+-- what is kept of the nodes below n where each counts as what it is: their leaves besides
 pub record KeptTo (table : List ℕ) (n rule : ℕ) (planes : List ℕ) : Type 0 where
   pub noted : NotedTo table n (leavesPlane planes)
-  pub facts : FactsTo table n (factsPlane planes)
-  pub least : rule ≡ leastBelow (guardCode table) n
+  pub ruled : RuledTo table (statementAt table) n rule planes
 
 -- something fails at node n
 abbrev pub Fails : List ℕ → ℕ → List ℕ → Type 0
@@ -37,7 +42,11 @@ pub record Going (table : List ℕ) (first : Visit) (end start : ℕ) (before af
   pub low : rule ≤ none
   pub marks : (best : ℕ) → SweptTo table (first .node) best (usedPlane before) → SweptTo table n best (usedPlane after)
   pub called : (k : ℕ) → first .node ≤ k → k < n → CallsBelow table k (first .limit)
-  pub kept : KeptTo table (first .node) start before → KeptTo table n rule after
+  pub noted : NotedTo table (first .node) (leavesPlane before) → NotedTo table n (leavesPlane after)
+  pub ruled : (reading : Reading table (first .node) n) → RuledTo table (reading .counts) (first .node) start before
+      → RuledTo table (reading .counts) n rule after
+  pub used : (k : ℕ) → k < 256 → bitAt (usedPlane after) k ≡ true
+      → (bitAt (usedPlane before) k ≡ true) ⊎ ((m : ℕ) × (m < n) × (1 ≤ occurrences k (partsAt table m)))
 
 -- up to `end`, or to a node at which something fails if a call may name any procedure
 pub record Quickly (table : List ℕ) (first : Visit) (end start : ℕ) (before after : List ℕ) (r : Reached) : Type 0 where

@@ -2,11 +2,10 @@
 ghost use mathlib.Core.Path.{_≡_};
 ghost use Prim.Native.Nat.{_<_, _≤_, min};
 ghost use lib.ListN.{length};
-ghost use Rattle.rules.specs.Table.{nodes, procedures};
-ghost use Rattle.sweep.specs.Asked.{Filled};
+ghost use Rattle.rules.specs.Table.{procedures};
+ghost use Rattle.sweep.specs.Asked.{Filled, effectCode};
 ghost use Rattle.sweep.specs.Swept.{bodyBest, bodyMarks, unusedBest, AfterNodes, AfterBodies, Uses};
 ghost use Rattle.table.specs.Sized.{Sized};
-ghost use Rattle.visit.specs.Facts.{ruleCode, flagCode, FactsTo};
 ghost use Rattle.visit.specs.Fields.{factsPlane, allPlanes, planeWords};
 ghost use Rattle.visit.specs.Least.{none, leastBelow};
 use table::Header;
@@ -80,8 +79,7 @@ pub(crate) fn sweep_uses(table: &[u8], header: Header, marks: &mut [u32], first:
 // Question 17 of a procedure, by the fact of its body.
 fn flag_body(table: &[u8], header: Header, planes: &[u32], best: usize, p: usize) -> usize
     requires { ⌜ Filled (now table) header × (p < header .procedures) × (length (now planes) ≡ allPlanes) × (best ≤ none) ⌝ }
-    requires { ⌜ FactsTo (now table) (nodes (now table)) (factsPlane (now planes)) ⌝ }
-    ensures { λ r. ⌜ r ≡ min best (flagCode (now (table .entry)) p) ⌝ }
+    ensures { λ r. ⌜ r ≡ min best (effectCode (now (table .entry)) (factsPlane (now (planes .entry))) p) ⌝ }
 {
     if !marked(&planes[PLANE..LEAVES], body(table, p)) {
         return best;
@@ -92,12 +90,10 @@ fn flag_body(table: &[u8], header: Header, planes: &[u32], best: usize, p: usize
     worse(best, 17, p)
 }
 
-// The least refusal of 13 to 17.
-pub(crate) fn unflagged(table: &[u8], header: Header, planes: &[u32], rule: usize) -> usize
-    requires { ⌜ Filled (now table) header × (length (now planes) ≡ allPlanes) × FactsTo (now table) (nodes (now table)) (factsPlane (now planes))
-        × (rule ≡ leastBelow (ruleCode (now table)) (nodes (now table))) ⌝ }
-    ensures { λ r. ⌜ r ≡ min (leastBelow (ruleCode (now (table .entry))) (nodes (now (table .entry))))
-        (leastBelow (flagCode (now (table .entry))) (procedures (now (table .entry)))) ⌝ }
+// The least refusal of 13 to 17 from that of 13 to 16.
+pub fn unflagged(table: &[u8], header: Header, planes: &[u32], rule: usize) -> usize
+    requires { ⌜ Filled (now table) header × (length (now planes) ≡ allPlanes) × (rule ≤ none) ⌝ }
+    ensures { λ r. ⌜ r ≡ min rule (leastBelow (effectCode (now (table .entry)) (factsPlane (now (planes .entry)))) (procedures (now (table .entry)))) ⌝ }
 {
     let count = header.procedures;
     let mut best = rule;

@@ -1,12 +1,12 @@
 // Questions 2 to 12, 26 and 13 to 17 in one exact sweep: each node once, each procedure once, and the least refusal kept. "Lowest number
 // first, then lowest place" is the least of all refusals, so they may be met in any order. Where there are leaves, the nodes are passed
-// over once more for them.
+// over once more for them. Every node counts as what it is here; what a switch leaves out is for crate `switches`.
 ghost use mathlib.Core.Bool.{true};
 ghost use mathlib.Core.Path.{_≡_};
 ghost use lib.ListN.{length, replicate};
-ghost use Rattle.rules.specs.Acceptance.{judged};
+ghost use Rattle.rules.specs.Acceptance.{judgedBy};
 ghost use Rattle.rules.specs.Answers.{_then_};
-ghost use Rattle.rules.specs.Table.{nodes};
+ghost use Rattle.rules.specs.Table.{nodes, statementAt};
 ghost use Rattle.rules.specs.WellFormed.{question12, wellFormed};
 ghost use Rattle.rules.specs.declared.Verdict.the-variants.{Accepted};
 ghost use Rattle.sweep.specs.Asked.{Filled, FirstCall, callsAsked, asked};
@@ -31,8 +31,8 @@ use visit::PLANES;
 use visit::least::NONE;
 use visit::least::verdict;
 
-mod bodies; // bodies.rt: questions 6, 10 and 17, and 11 of nodes that are not used
-mod nodes; // nodes.rt: questions 7, 8, 9, 13 to 16 and 11 of nodes that are used twice
+pub mod bodies; // bodies.rt: questions 6, 10 and 17, and 11 of nodes that are not used
+pub mod nodes; // nodes.rt: questions 7, 8, 9, 13 to 16 and 11 of nodes that are used twice
 
 // The words of the planes; once the nodes are swept, the first plane serves question 12 and then the leaves.
 pub const PLANE_WORDS: usize = PLANES;
@@ -129,10 +129,10 @@ pub fn well_formed(table: &[u8], planes: &mut [u32]) -> Verdict
     ask(table, planes, false)
 }
 
-// Questions 2 to 12, 26 and 13 to 17.
+// Questions 2 to 12, 26 and 13 to 17, where every node counts.
 pub fn accepted(table: &[u8], planes: &mut [u32]) -> Verdict
     requires { ⌜ now planes ≡ replicate allPlanes 0 ⌝ }
-    ensures { λ r. ⌜ r ≡ (wellFormed (now (table .entry)) then judged (now (table .entry))) ⌝ }
+    ensures { λ r. ⌜ r ≡ (wellFormed (now (table .entry)) then judgedBy (now (table .entry)) (statementAt (now (table .entry)))) ⌝ }
 {
     ask(table, planes, true)
 }

@@ -24,7 +24,7 @@ use visit::least::NONE;
 use visit::least::lesser;
 
 // On over the nodes at which nothing fails, up to `end` or the first that is stuck.
-fn sweep_quickly(
+pub fn sweep_quickly(
     table: &[u8],
     planes: &mut [u32],
     first: Visit,

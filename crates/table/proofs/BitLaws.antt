@@ -189,3 +189,15 @@ bits-full m n k whole full from to =
 -- words cleared, of a known number
 pub cleared : {n : ℕ} (after m : List ℕ) → after ≡ replicate (length m) 0 → length m ≡ n → after ≡ replicate n 0
 cleared after m e size = e ∙ ap (λ (k : ℕ). replicate k 0) size
+
+-- marks whose words are all 0
+
+word-bit : (marks : List ℕ) (k : ℕ) → getD marks (k / 32) 0 ≡ 0 → bitAt marks k ≡ false
+unfolding bitAt hasBit
+word-bit marks k e = rw e (ap (λ (w : ℕ). eqb (w % 2) 1) (zero-div (2 ^ (k % 32))))
+
+pub none-set : (marks : List ℕ) → allBelow (λ i. eqb (getD marks i 0) 0) (length marks) ≡ true → (k : ℕ) → k < 32 * length marks
+    → bitAt marks k ≡ false
+none-set marks all k inside =
+    word-bit marks k
+    (eqb-true (getD marks (k / 32) 0) 0 (all-at (λ i. eqb (getD marks i 0) 0) (length marks) all (k / 32) (omega arith)))

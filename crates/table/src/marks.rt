@@ -1,8 +1,9 @@
 // A set of nodes as bits in lent words: node n is bit n % 32 of word n / 32.
 ghost use mathlib.Core.Path.{_≡_};
 ghost use Prim.Native.Nat.{_+_, _*_, _<_, _≤_};
-ghost use lib.ListN.{length, replicate};
-ghost use Rattle.rules.specs.Choice.{firstFailing};
+ghost use lib.Dec.{eqb};
+ghost use lib.ListN.{length, getD, replicate};
+ghost use Rattle.rules.specs.Choice.{firstFailing, allBelow};
 ghost use Rattle.table.specs.Marks.{bitAt, withBit, Passed};
 
 pub fn marked(marks: &[u32], n: usize) -> bool
@@ -57,4 +58,19 @@ pub fn first_unmarked(marks: &[u32], count: usize) -> usize
         n += more;
     }
     count
+}
+
+pub fn none_marked(marks: &[u32]) -> bool
+    requires { ⌜ length (now marks) ≡ 8 ⌝ }
+    ensures { λ r. ⌜ r ≡ allBelow (λ i. eqb (getD (now (marks .entry)) i 0) 0) (length (now (marks .entry))) ⌝ }
+{
+    let count = marks.len();
+    let mut i = 0;
+    while i < count {
+        if marks[i] != 0 {
+            return false;
+        }
+        i += 1;
+    }
+    true
 }

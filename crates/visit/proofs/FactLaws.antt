@@ -1,7 +1,7 @@
 -- The planes, and what the fact and the refusal by 13 to 16 of a node are, by its kind, from the facts of its parts.
 use mathlib.Core.Bool.{Bool, true, false, cond, not, _&&_, _||_, or-false, Bool·not-not}
 use mathlib.Core.List.{List}
-use mathlib.Core.Logic.{⊎-elim}
+use mathlib.Core.Logic.{_⊎_, inl, ⊎-elim}
 use mathlib.Core.Path.{_≡_, refl, sym, _∙_}
 use Prim.Native.Nat.{ℕ, suc, _+_, _-_, _≤_, _<_}
 use native.Mathlib.Decide.{decLt}
@@ -14,6 +14,7 @@ use Rattle.rules.specs.Acceptance.{ruleOf}
 use Rattle.rules.specs.Below.{below, atNode}
 use Rattle.rules.specs.Judgement.{singleOf, single, effectOf, effect}
 use Rattle.rules.specs.Table.{lastStatement, flagged, nodeAt, expressionOf, expressionAt, statementOf, statementAt}
+use Rattle.rules.specs.Table.{Statement, nothing}
 use Rattle.rules.specs.WellFormed.{isExpression, isStatement}
 use Rattle.rules.proofs.AnswerLaws.{both-left}
 use Rattle.rules.proofs.BelowLaws.{below-at}
@@ -21,8 +22,26 @@ use Rattle.rules.proofs.ChoiceLaws.{bool-cases}
 use Rattle.rules.proofs.KindLaws.{operation-of, by-kind}
 use Rattle.table.specs.Marks.{bitAt, withBit}
 use Rattle.table.proofs.BitLaws.{length-withBit, bit-same, bit-other, bit-zero}
-use Rattle.visit.specs.Facts.{fact, ruleCode, guardCode, PlaneTo}
+use Rattle.visit.specs.Facts.{Reading, fact, ruleCode, guardCode, PlaneTo}
 use Rattle.visit.specs.Least.{none, code, failure}
+
+-- readings: the one by which every node counts as what it is
+abbrev pub whole : (table : List ℕ) (n end : ℕ) → Reading table n end
+whole table n end = record { counts = statementAt table; each = λ k. inl refl; here = λ k from to. refl }
+
+-- one of a stretch is one of its last node, and of those before that
+module _ {table : List ℕ} {first : ℕ} (n : ℕ) where
+  abbrev pub earlier-of : Reading table first (n + 1) → Reading table first n
+  earlier-of reading =
+      record { counts = reading .counts; each = reading .each; here = λ k from to. reading .here k from (omega arith) }
+
+  abbrev pub last-of : first ≤ n → Reading table first (n + 1) → Reading table n (n + 1)
+  last-of low reading =
+      record { counts = reading .counts; each = reading .each; here = λ k from to. reading .here k (omega arith) to }
+
+-- by one of node n it counts as what it is
+pub as-it-is : {table : List ℕ} {n : ℕ} (reading : Reading table n (n + 1)) → reading .counts n ≡ statementAt table n
+as-it-is {table} {n} reading = reading .here n (omega arith) (omega arith)
 
 -- a plane
 
@@ -69,40 +88,43 @@ unfoldable pub earlierSingle : List ℕ → ℕ → ℕ → Bool
 earlierSingle table n a =
     getD (below (λ earlier k. singleOf table (λ i. getD earlier i false) (expressionAt table k)) n) a false
 
-unfoldable pub earlierEffect : List ℕ → ℕ → ℕ → Bool
-earlierEffect table n a =
-    getD (below (λ earlier k. effectOf table (λ i. getD earlier i false) (statementAt table k)) n) a false
+unfoldable pub earlierEffect : List ℕ → (ℕ → Statement) → ℕ → ℕ → Bool
+earlierEffect table reading n a =
+    getD (below (λ earlier k. effectOf table (λ i. getD earlier i false) (reading k)) n) a false
 
-module _ (table : List ℕ) (n : ℕ) where
+module _ (table : List ℕ) (reading : ℕ → Statement) (n : ℕ) where
   single-once : single table n ≡ singleOf table (earlierSingle table n) (expressionOf (nodeAt table n))
   unfolding single atNode earlierSingle expressionAt
   single-once = refl
 
-  effect-once : effect table n ≡ effectOf table (earlierEffect table n) (statementOf (nodeAt table n))
-  unfolding effect atNode earlierEffect statementAt
+  effect-once : effect table reading n ≡ effectOf table (earlierEffect table reading n) (reading n)
+  unfolding effect atNode earlierEffect
   effect-once = refl
 
   -- the fact of the node from these; it computes once the kind is known
   unfoldable pub once : Node → Bool
   unfolding expressionOf statementOf singleOf effectOf
   once m =
-      not (singleOf table (earlierSingle table n) (expressionOf m)) || effectOf table (earlierEffect table n) (statementOf m)
+      not (singleOf table (earlierSingle table n) (expressionOf m)) || effectOf table (earlierEffect table reading n) (statementOf m)
 
-  fact-once : fact table n ≡ once (nodeAt table n)
-  unfolding fact once
-  fact-once = rw (single-once, effect-once)
+  fact-once : reading n ≡ statementAt table n → fact table reading n ≡ once (nodeAt table n)
+  unfolding fact once statementAt
+  fact-once here = rw (single-once, effect-once, here)
 
   -- a node is of one sort
 
-  pub fact-expression : isExpression table n ≡ true → fact table n ≡ not (single table n)
-  unfolding fact isExpression statementOf effectOf
-  fact-expression e =
+  pub fact-expression : (reading n ≡ statementAt table n) ⊎ (reading n ≡ nothing) → isExpression table n ≡ true → fact table reading n ≡ not (single table n)
+  unfolding fact isExpression statementAt statementOf effectOf
+  fact-expression either e =
       let low = leb-true (nodeAt table n .kind) 12 e in
       let other : nodeAt table n .kind - 16 ≡ 0 = omega arith in
-      let free : effect table n ≡ false = effect-once ∙ simp other in
+      let free : effect table reading n ≡ false =
+      effect-once
+      ∙ ⊎-elim (λ (here : reading n ≡ statementAt table n). rw here (simp other)) (λ (dead : reading n ≡ nothing). rw dead)
+      either in
       simp (free, or-false)
 
-  pub fact-statement : isStatement table n ≡ true → fact table n ≡ effect table n
+  pub fact-statement : isStatement table n ≡ true → fact table reading n ≡ effect table reading n
   unfolding fact isStatement expressionOf singleOf
   fact-statement e =
       let kind = nodeAt table n .kind in
@@ -111,18 +133,18 @@ module _ (table : List ℕ) (n : ℕ) where
       let free : single table n ≡ true = single-once ∙ rw other in
       simp free
 
-  single-fact : isExpression table n ≡ true → single table n ≡ not (fact table n)
-  single-fact e = simp (fact-expression e, Bool·not-not)
+  single-fact : (reading n ≡ statementAt table n) ⊎ (reading n ≡ nothing) → isExpression table n ≡ true → single table n ≡ not (fact table reading n)
+  single-fact either e = simp (fact-expression either e, Bool·not-not)
 
 -- parts that lie below the node
-module _ (table : List ℕ) (n a : ℕ) (l : a < n) where
-  single-part : isExpression table a ≡ true → earlierSingle table n a ≡ not (fact table a)
+module _ (table : List ℕ) (n : ℕ) (reading : Reading table n (n + 1)) (a : ℕ) (l : a < n) where
+  single-part : isExpression table a ≡ true → earlierSingle table n a ≡ not (fact table (reading .counts) a)
   unfolding earlierSingle single
-  single-part e = below-at _ n a false l ∙ single-fact table a e
+  single-part e = below-at _ n a false l ∙ single-fact table (reading .counts) a (reading .each a) e
 
-  effect-part : isStatement table a ≡ true → earlierEffect table n a ≡ fact table a
+  effect-part : isStatement table a ≡ true → earlierEffect table (reading .counts) n a ≡ fact table (reading .counts) a
   unfolding earlierEffect effect
-  effect-part e = below-at _ n a false l ∙ sym (fact-statement table a e)
+  effect-part e = below-at _ n a false l ∙ sym (fact-statement table (reading .counts) a e)
 
 -- laws of tests
 
@@ -143,7 +165,10 @@ swapped false true p = refl
 swapped false false p = refl
 
 -- by kind
-module _ (table : List ℕ) (n : ℕ) where
+module _ (table : List ℕ) (n : ℕ) (reading : Reading table n (n + 1)) where
+  abbrev counts : ℕ → Statement
+  counts = reading .counts
+
   abbrev kind : ℕ
   kind = nodeAt table n .kind
 
@@ -158,84 +183,85 @@ module _ (table : List ℕ) (n : ℕ) where
 
   -- kinds whose parts do not matter
 
-  pub fact-as : (k : ℕ) → kind ≡ k → fact table n ≡ once table n (record { kind = k; a = a; b = b; c = c })
-  fact-as k e = fact-once table n ∙ rw (← e) refl
+  pub fact-as : (k : ℕ) → kind ≡ k → fact table counts n ≡ once table counts n (record { kind = k; a = a; b = b; c = c })
+  fact-as k e = fact-once table counts n (as-it-is reading) ∙ rw (← e) refl
 
-  pub fact-1 : kind ≡ 1 → fact table n ≡ not (flagged table a)
+  pub fact-1 : kind ≡ 1 → fact table counts n ≡ not (flagged table a)
   unfolding once
-  fact-1 e = fact-once table n ∙ simp (e, or-false)
+  fact-1 e = fact-once table counts n (as-it-is reading) ∙ simp (e, or-false)
 
-  pub fact-17 : kind ≡ 17 → fact table n ≡ flagged table a
+  pub fact-17 : kind ≡ 17 → fact table counts n ≡ flagged table a
   unfolding once
-  fact-17 e = fact-once table n ∙ simp e
+  fact-17 e = fact-once table counts n (as-it-is reading) ∙ simp e
 
-  pub fact-24 : kind ≡ 24 → fact table n ≡ true
+  pub fact-24 : kind ≡ 24 → fact table counts n ≡ true
   unfolding once
-  fact-24 e = fact-once table n ∙ simp e
+  fact-24 e = fact-once table counts n (as-it-is reading) ∙ simp e
 
   -- expressions of parts
 
-  pub fact-5 : kind ≡ 5 → a < n → isExpression table a ≡ true → fact table n ≡ fact table a
+  pub fact-5 : kind ≡ 5 → a < n → isExpression table a ≡ true → fact table counts n ≡ fact table counts a
   unfolding once
-  fact-5 e l s = fact-once table n ∙ simp (e, or-false, single-part table n a l s, Bool·not-not)
+  fact-5 e l s = fact-once table counts n (as-it-is reading) ∙ simp (e, or-false, single-part table n reading a l s, Bool·not-not)
 
   pub fact-operation : 6 ≤ kind → kind ≤ 12 → a < n → b < n → isExpression table a ≡ true → isExpression table b ≡ true
-      → fact table n ≡ (fact table a || fact table b)
+      → fact table counts n ≡ (fact table counts a || fact table counts b)
   unfolding once
   fact-operation low high l m s t =
       let other : kind - 16 ≡ 0 = omega arith in
-      let first = single-part table n a l s in
-      let second = single-part table n b m t in
-      fact-once table n
+      let first = single-part table n reading a l s in
+      let second = single-part table n reading b m t in
+      fact-once table counts n (as-it-is reading)
       ∙ simp (operation-of (nodeAt table n) low high, other, or-false, first, second, neither, Bool·not-not)
 
   -- statements of parts
 
   pub fact-18 : kind ≡ 18 → a < n → b < n → isStatement table a ≡ true → isStatement table b ≡ true
-      → fact table n ≡ (fact table a || fact table b)
+      → fact table counts n ≡ (fact table counts a || fact table counts b)
   unfolding once
-  fact-18 e l m s t = fact-once table n ∙ simp (e, effect-part table n a l s, effect-part table n b m t)
+  fact-18 e l m s t = fact-once table counts n (as-it-is reading) ∙ simp (e, effect-part table n reading a l s, effect-part table n reading b m t)
 
   pub fact-19 : kind ≡ 19 → b < n → c < n → isStatement table b ≡ true → isStatement table c ≡ true
-      → fact table n ≡ (fact table b || fact table c)
+      → fact table counts n ≡ (fact table counts b || fact table counts c)
   unfolding once
-  fact-19 e l m s t = fact-once table n ∙ simp (e, effect-part table n b l s, effect-part table n c m t)
+  fact-19 e l m s t = fact-once table counts n (as-it-is reading) ∙ simp (e, effect-part table n reading b l s, effect-part table n reading c m t)
 
-  pub fact-20 : kind ≡ 20 → b < n → isStatement table b ≡ true → fact table n ≡ fact table b
+  pub fact-20 : kind ≡ 20 → b < n → isStatement table b ≡ true → fact table counts n ≡ fact table counts b
   unfolding once
-  fact-20 e l s = fact-once table n ∙ simp (e, effect-part table n b l s)
+  fact-20 e l s = fact-once table counts n (as-it-is reading) ∙ simp (e, effect-part table n reading b l s)
 
   -- the refusals by 13 to 16
 
-  pub rule-none : (kind ≡ 17 → ⊥) → (kind ≡ 19 → ⊥) → (kind ≡ 20 → ⊥) → (kind ≡ 24 → ⊥) → guardCode table n ≡ none
+  pub rule-none : (kind ≡ 17 → ⊥) → (kind ≡ 19 → ⊥) → (kind ≡ 20 → ⊥) → (kind ≡ 24 → ⊥) → guardCode table counts n ≡ none
   unfolding guardCode ruleCode ruleOf statementAt
   rule-none p q r s =
       simp (ne-eqb kind 20 r)
-      (by-kind (λ t. failure (ruleOf table t .question) n (ruleOf table t .holds) ≡ none) (nodeAt table n) (λ e. absurd (p e))
-      (λ e. refl) (λ e. absurd (q e)) (λ e. absurd (r e)) (λ e. refl) (λ e. refl) (λ e. refl) (λ e. absurd (s e)) (λ e. refl)
-      (λ e. refl) refl)
+      (rw (as-it-is reading)
+      (by-kind (λ t. failure (ruleOf table counts t .question) n (ruleOf table counts t .holds) ≡ none) (nodeAt table n)
+      (λ e. absurd (p e)) (λ e. refl) (λ e. absurd (q e)) (λ e. absurd (r e)) (λ e. refl) (λ e. refl) (λ e. refl)
+      (λ e. absurd (s e)) (λ e. refl) (λ e. refl) refl))
 
   pub rule-17 : kind ≡ 17 → isExpression table b ≡ true
-      → guardCode table n ≡ cond (flagged table a) (cond (fact table b) (code 13 n) none) none
+      → guardCode table counts n ≡ cond (flagged table a) (cond (fact table counts b) (code 13 n) none) none
   unfolding guardCode ruleCode ruleOf statementAt statementOf
-  rule-17 e s = simp (e, single-fact table b s) (fails-both 13 n (flagged table a) (fact table b))
+  rule-17 e s = simp (as-it-is reading, e, single-fact table counts b (reading .each b) s) (fails-both 13 n (flagged table a) (fact table counts b))
 
   pub rule-24 : kind ≡ 24 → isExpression table c ≡ true
-      → guardCode table n ≡ cond (fact table c) (code 14 n) none
+      → guardCode table counts n ≡ cond (fact table counts c) (code 14 n) none
   unfolding guardCode ruleCode ruleOf statementAt statementOf
-  rule-24 e s = simp (e, single-fact table c s) (fails-both 14 n true (fact table c))
+  rule-24 e s = simp (as-it-is reading, e, single-fact table counts c (reading .each c) s) (fails-both 14 n true (fact table counts c))
 
   pub rule-19 : kind ≡ 19 → isExpression table a ≡ true → isStatement table b ≡ true → isStatement table c ≡ true
-      → guardCode table n ≡ cond (fact table b || fact table c) (cond (fact table a) (code 15 n) none) none
+      → guardCode table counts n ≡ cond (fact table counts b || fact table counts c) (cond (fact table counts a) (code 15 n) none) none
   unfolding guardCode ruleCode ruleOf statementAt statementOf
   rule-19 e s t u =
-      simp (e, single-fact table a s, ← fact-statement table b t, ← fact-statement table c u, neither)
-      (fails-both 15 n (fact table a) (fact table b || fact table c)
-      ∙ swapped (fact table a) (fact table b || fact table c) (code 15 n))
+      simp (as-it-is reading, e, single-fact table counts a (reading .each a) s, ← fact-statement table counts b t, ← fact-statement table counts c u, neither)
+      (fails-both 15 n (fact table counts a) (fact table counts b || fact table counts c)
+      ∙ swapped (fact table counts a) (fact table counts b || fact table counts c) (code 15 n))
 
-  pub rule-20 : kind ≡ 20 → isExpression table a ≡ true → isStatement table b ≡ true
-      → guardCode table n ≡ cond (fact table b) (cond (fact table a) (code 16 n) none) none
-  unfolding guardCode ruleCode ruleOf statementAt statementOf
-  rule-20 e s t =
-      simp (e, single-fact table a s, ← fact-statement table b t)
-      (fails-both 16 n (fact table a) (fact table b) ∙ swapped (fact table a) (fact table b) (code 16 n))
+  pub rule-20 : kind ≡ 20 → isExpression table a ≡ true
+      → guardCode table counts n ≡ cond (fact table counts n) (cond (fact table counts a) (code 16 n) none) none
+  unfolding guardCode isStatement
+  rule-20 e s =
+      simp (e, single-fact table counts a (reading .each a) s, ← fact-statement table counts n (simp e))
+      (fails-both 16 n (fact table counts a) (fact table counts n) ∙ swapped (fact table counts a) (fact table counts n) (code 16 n))

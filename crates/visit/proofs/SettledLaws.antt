@@ -10,7 +10,7 @@ use lib.ListN.{length}
 use borrow.Author.Tests.{leb-true, ltb-true, eqb-false, not-true, not-false}
 use borrow.Rule.Slice.PartMut.{putMid}
 use Rattle.rules.specs.declared.Node.{Node}
-use Rattle.rules.specs.Table.{variables, nodes, flagged, nodeAt}
+use Rattle.rules.specs.Table.{variables, nodes, flagged, nodeAt, Statement}
 use Rattle.rules.specs.WellFormed.{isExpression, isStatement, expressionPart, statementPart, nodeFits}
 use Rattle.rules.proofs.AnswerLaws.{both-left, both-right}
 use Rattle.rules.proofs.ChoiceLaws.{bool-cases}
@@ -22,7 +22,7 @@ use Rattle.table.proofs.BitLaws.{length-withBit}
 use Rattle.table.proofs.FittingLaws.{fields-fit}
 use Rattle.table.proofs.TestLaws.{never}
 use Rattle.visit.specs.declared.Visit.{Visit}
-use Rattle.visit.specs.Facts.{fact, guardCode, FactsTo, sourced, ruled, Settled}
+use Rattle.visit.specs.Facts.{Reading, fact, guardCode, FactsTo, sourced, ruled, Settled}
 use Rattle.visit.specs.Fields.{factsPlane, allPlanes}
 use Rattle.visit.specs.Least.{none, code}
 use Rattle.visit.proofs.FactLaws.{once, fact-as, fact-1, fact-5, fact-operation, fact-17, fact-18, fact-19, fact-20}
@@ -66,9 +66,9 @@ module _ (table : List ℕ) (v : Visit) (m : Node) (used : Bool) (source questio
         }
 
 -- a source gives the fact of node n, and a question with its guard the refusal by the node's rule
-pub record Judges (table : List ℕ) (n : ℕ) (facts : List ℕ) (source question guard : ℕ) : Type 0 where
-  pub fact-is : sourced table facts (nodeAt table n) source ≡ fact table n
-  pub rule-is : cond (fact table n) (ruled (bitAt facts (guard % 256)) question n) none ≡ guardCode table n
+pub record Judges (table : List ℕ) (reading : ℕ → Statement) (n : ℕ) (facts : List ℕ) (source question guard : ℕ) : Type 0 where
+  pub fact-is : sourced table facts (nodeAt table n) source ≡ fact table reading n
+  pub rule-is : cond (fact table reading n) (ruled (bitAt facts (guard % 256)) question n) none ≡ guardCode table reading n
 
 either-way : (b : Bool) (r : ℕ) → cond b r r ≡ r
 either-way true r = refl
@@ -79,7 +79,10 @@ asked : ℕ → Bool
 asked k = eqb k 17 || (eqb k 19 || (eqb k 20 || eqb k 24))
 
 module _ (table : List ℕ) (n : ℕ) (header : Header) (facts : List ℕ) (sized : Sized table header) (low : n < nodes table)
-    (fits : nodeFits table n ≡ true) (known : FactsTo table n facts) where
+    (fits : nodeFits table n ≡ true) (reading : Reading table n (n + 1)) (known : FactsTo table (reading .counts) n facts) where
+  abbrev counts : ℕ → Statement
+  counts = reading .counts
+
   abbrev kind : ℕ
   kind = nodeAt table n .kind
 
@@ -114,7 +117,7 @@ module _ (table : List ℕ) (n : ℕ) (header : Header) (facts : List ℕ) (size
   record Part (sort : Bool) (v : ℕ) : Type 0 where
     below : v < n
     sorted : sort ≡ true
-    bit : bitAt facts (v % 256) ≡ fact table v
+    bit : bitAt facts (v % 256) ≡ fact table counts v
 
   part : (sort : Bool) (v : ℕ) → (ltb v n && sort) ≡ true → Part sort v
   part sort v f =
@@ -132,71 +135,71 @@ module _ (table : List ℕ) (n : ℕ) (header : Header) (facts : List ℕ) (size
 
   -- a node with no rule, and one whose rule fails where it has an effect and its guard is not single
 
-  quiet : (k : ℕ) → kind ≡ k → asked k ≡ false → guardCode table n ≡ none
+  quiet : (k : ℕ) → kind ≡ k → asked k ≡ false → guardCode table counts n ≡ none
   unfolding asked
   quiet k e f =
       let other : (i : ℕ) → asked i ≡ true → kind ≡ i → ⊥ = λ i t h. never (sym t ∙ ap asked (sym h ∙ e) ∙ f) in
-      rule-none table n (other 17 refl) (other 19 refl) (other 20 refl) (other 24 refl)
+      rule-none table n reading (other 17 refl) (other 19 refl) (other 20 refl) (other 24 refl)
 
-  plain : (source guard : ℕ) → guardCode table n ≡ none → sourced table facts (nodeAt table n) source ≡ fact table n
-      → Judges table n facts source 0 guard
+  plain : (source guard : ℕ) → guardCode table counts n ≡ none → sourced table facts (nodeAt table n) source ≡ fact table counts n
+      → Judges table counts n facts source 0 guard
   unfolding ruled
-  plain source guard r f = record { fact-is = f; rule-is = rw r (either-way (fact table n) none) }
+  plain source guard r f = record { fact-is = f; rule-is = rw r (either-way (fact table counts n) none) }
 
   guarded : (source question guard : ℕ) {sort : Bool} → eqb question 0 ≡ false → Part sort guard
-      → sourced table facts (nodeAt table n) source ≡ fact table n
-      → guardCode table n ≡ cond (fact table n) (cond (fact table guard) (code question n) none) none
-      → Judges table n facts source question guard
+      → sourced table facts (nodeAt table n) source ≡ fact table counts n
+      → guardCode table counts n ≡ cond (fact table counts n) (cond (fact table counts guard) (code question n) none) none
+      → Judges table counts n facts source question guard
   unfolding ruled
   guarded source question guard q p f r = record { fact-is = f; rule-is = simp (q, p .bit, r) }
 
   -- by kind
 
-  pub judges-0 : kind ≡ 0 → Judges table n facts 0 0 a
+  pub judges-0 : kind ≡ 0 → Judges table counts n facts 0 0 a
   unfolding sourced asked once
-  judges-0 e = plain 0 a (quiet 0 e refl) (sym (fact-as table n 0 e))
+  judges-0 e = plain 0 a (quiet 0 e refl) (sym (fact-as table n reading 0 e))
 
-  pub judges-1 : kind ≡ 1 → Judges table n facts 2 0 a
+  pub judges-1 : kind ≡ 1 → Judges table counts n facts 2 0 a
   unfolding sourced asked roleOf roles
   judges-1 e =
-      plain 2 a (quiet 1 e refl) (ap (λ v. not (flagged table v)) (same-variable a (a-fits 1 e)) ∙ sym (fact-1 table n e))
+      plain 2 a (quiet 1 e refl) (ap (λ v. not (flagged table v)) (same-variable a (a-fits 1 e)) ∙ sym (fact-1 table n reading e))
 
-  pub judges-2 : (kind ≡ 2) ⊎ (kind ≡ 23) → Judges table n facts 1 0 a
+  pub judges-2 : (kind ≡ 2) ⊎ (kind ≡ 23) → Judges table counts n facts 1 0 a
   unfolding sourced asked once
   judges-2 =
-      ⊎-elim (λ (e : kind ≡ 2). plain 1 a (quiet 2 e refl) (sym (fact-as table n 2 e)))
-      (λ (e : kind ≡ 23). plain 1 a (quiet 23 e refl) (sym (fact-as table n 23 e)))
+      ⊎-elim (λ (e : kind ≡ 2). plain 1 a (quiet 2 e refl) (sym (fact-as table n reading 2 e)))
+      (λ (e : kind ≡ 23). plain 1 a (quiet 23 e refl) (sym (fact-as table n reading 23 e)))
 
-  pub judges-3 : (kind ≡ 3) ⊎ (kind ≡ 16) → Judges table n facts 0 0 a
+  pub judges-3 : (kind ≡ 3) ⊎ (kind ≡ 16) → Judges table counts n facts 0 0 a
   unfolding sourced asked once
   judges-3 =
-      ⊎-elim (λ (e : kind ≡ 3). plain 0 a (quiet 3 e refl) (sym (fact-as table n 3 e)))
-      (λ (e : kind ≡ 16). plain 0 a (quiet 16 e refl) (sym (fact-as table n 16 e)))
+      ⊎-elim (λ (e : kind ≡ 3). plain 0 a (quiet 3 e refl) (sym (fact-as table n reading 3 e)))
+      (λ (e : kind ≡ 16). plain 0 a (quiet 16 e refl) (sym (fact-as table n reading 16 e)))
 
-  pub judges-4 : kind ≡ 4 → Judges table n facts 1 0 a
+  pub judges-4 : kind ≡ 4 → Judges table counts n facts 1 0 a
   unfolding sourced asked once
-  judges-4 e = plain 1 a (quiet 4 e refl) (sym (fact-as table n 4 e))
+  judges-4 e = plain 1 a (quiet 4 e refl) (sym (fact-as table n reading 4 e))
 
-  pub judges-5 : kind ≡ 5 → Judges table n facts 5 0 a
+  pub judges-5 : kind ≡ 5 → Judges table counts n facts 5 0 a
   unfolding sourced asked roleOf roles
   judges-5 e =
       let p = expression a (a-fits 5 e) in
-      plain 5 a (quiet 5 e refl) (p .bit ∙ sym (fact-5 table n e (p .below) (p .sorted)))
+      plain 5 a (quiet 5 e refl) (p .bit ∙ sym (fact-5 table n reading e (p .below) (p .sorted)))
 
   operation : (k : ℕ) → kind ≡ k → (leb 6 k && leb k 12) ≡ true → roleOf k 100 ≡ 2 → roleOf k 10 ≡ 2
-      → Judges table n facts 7 0 a
+      → Judges table counts n facts 7 0 a
   unfolding sourced
   operation k e h x y =
       let from = leb-true 6 k (both-left (leb 6 k) (leb k 12) h) in
       let to = leb-true k 12 (both-right (leb 6 k) (leb k 12) h) in
       let p = expression a (rw x at (a-fits k e)) in
       let q = expression b (rw y at (b-fits k e)) in
-      let here = fact-operation table n (omega arith) (omega arith) (p .below) (q .below) (p .sorted) (q .sorted) in
-      plain 7 a (rule-none table n (omega arith) (omega arith) (omega arith) (omega arith)) (rw (p .bit, q .bit, here))
+      let here = fact-operation table n reading (omega arith) (omega arith) (p .below) (q .below) (p .sorted) (q .sorted) in
+      plain 7 a (rule-none table n reading (omega arith) (omega arith) (omega arith) (omega arith)) (rw (p .bit, q .bit, here))
 
   pub judges-6 : (kind ≡ 6)
       ⊎ ((kind ≡ 7) ⊎ ((kind ≡ 8) ⊎ ((kind ≡ 9) ⊎ ((kind ≡ 10) ⊎ ((kind ≡ 11) ⊎ (kind ≡ 12))))))
-      → Judges table n facts 7 0 a
+      → Judges table counts n facts 7 0 a
   unfolding roleOf roles
   judges-6 =
       ⊎-elim (λ (e : kind ≡ 6). operation 6 e refl refl refl)
@@ -206,59 +209,59 @@ module _ (table : List ℕ) (n : ℕ) (header : Header) (facts : List ℕ) (size
       (⊎-elim (λ (e : kind ≡ 10). operation 10 e refl refl refl)
       (⊎-elim (λ (e : kind ≡ 11). operation 11 e refl refl refl) (λ (e : kind ≡ 12). operation 12 e refl refl refl))))))
 
-  pub judges-17 : kind ≡ 17 → Judges table n facts 3 13 b
+  pub judges-17 : kind ≡ 17 → Judges table counts n facts 3 13 b
   unfolding sourced roleOf roles
   judges-17 e =
       let p = expression b (b-fits 17 e) in
-      guarded 3 13 b refl p (ap (flagged table) (same-variable a (a-fits 17 e)) ∙ sym (fact-17 table n e))
-      (rw (fact-17 table n e) (rule-17 table n e (p .sorted)))
+      guarded 3 13 b refl p (ap (flagged table) (same-variable a (a-fits 17 e)) ∙ sym (fact-17 table n reading e))
+      (rw (fact-17 table n reading e) (rule-17 table n reading e (p .sorted)))
 
-  pub judges-18 : kind ≡ 18 → Judges table n facts 7 0 a
+  pub judges-18 : kind ≡ 18 → Judges table counts n facts 7 0 a
   unfolding sourced asked roleOf roles
   judges-18 e =
       let p = statement a (a-fits 18 e) in
       let q = statement b (b-fits 18 e) in
       plain 7 a (quiet 18 e refl)
-      (rw (p .bit, q .bit, fact-18 table n e (p .below) (q .below) (p .sorted) (q .sorted)))
+      (rw (p .bit, q .bit, fact-18 table n reading e (p .below) (q .below) (p .sorted) (q .sorted)))
 
-  pub judges-19 : kind ≡ 19 → Judges table n facts 8 15 a
+  pub judges-19 : kind ≡ 19 → Judges table counts n facts 8 15 a
   unfolding sourced roleOf roles
   judges-19 e =
       let p = expression a (a-fits 19 e) in
       let q = statement b (b-fits 19 e) in
       let r = statement c (c-fits 19 e) in
-      let here = fact-19 table n e (q .below) (r .below) (q .sorted) (r .sorted) in
-      guarded 8 15 a refl p (rw (q .bit, r .bit, here)) (rw here (rule-19 table n e (p .sorted) (q .sorted) (r .sorted)))
+      let here = fact-19 table n reading e (q .below) (r .below) (q .sorted) (r .sorted) in
+      guarded 8 15 a refl p (rw (q .bit, r .bit, here)) (rw here (rule-19 table n reading e (p .sorted) (q .sorted) (r .sorted)))
 
-  pub judges-20 : kind ≡ 20 → Judges table n facts 6 16 a
+  pub judges-20 : kind ≡ 20 → Judges table counts n facts 6 16 a
   unfolding sourced roleOf roles
   judges-20 e =
       let p = expression a (a-fits 20 e) in
       let q = statement b (b-fits 20 e) in
-      let here = fact-20 table n e (q .below) (q .sorted) in
-      guarded 6 16 a refl p (rw (q .bit, here)) (rw here (rule-20 table n e (p .sorted) (q .sorted)))
+      let here = fact-20 table n reading e (q .below) (q .sorted) in
+      guarded 6 16 a refl p (rw (q .bit, here)) (rule-20 table n reading e (p .sorted))
 
-  pub judges-21 : kind ≡ 21 → Judges table n facts 4 0 a
+  pub judges-21 : kind ≡ 21 → Judges table counts n facts 4 0 a
   unfolding sourced asked once
-  judges-21 e = plain 4 a (quiet 21 e refl) (sym (fact-as table n 21 e))
+  judges-21 e = plain 4 a (quiet 21 e refl) (sym (fact-as table n reading 21 e))
 
-  pub judges-22 : kind ≡ 22 → Judges table n facts 0 0 a
+  pub judges-22 : kind ≡ 22 → Judges table counts n facts 0 0 a
   unfolding sourced asked once
-  judges-22 e = plain 0 a (quiet 22 e refl) (sym (fact-as table n 22 e))
+  judges-22 e = plain 0 a (quiet 22 e refl) (sym (fact-as table n reading 22 e))
 
-  pub judges-24 : kind ≡ 24 → Judges table n facts 1 14 c
+  pub judges-24 : kind ≡ 24 → Judges table counts n facts 1 14 c
   unfolding sourced roleOf roles
   judges-24 e =
       let p = expression c (c-fits 24 e) in
-      guarded 1 14 c refl p (sym (fact-24 table n e)) (rw (fact-24 table n e) (rule-24 table n e (p .sorted)))
+      guarded 1 14 c refl p (sym (fact-24 table n reading e)) (rw (fact-24 table n reading e) (rule-24 table n reading e (p .sorted)))
 
-  pub judges-25 : kind ≡ 25 → Judges table n facts 1 0 a
+  pub judges-25 : kind ≡ 25 → Judges table counts n facts 1 0 a
   unfolding sourced asked once
-  judges-25 e = plain 1 a (quiet 25 e refl) (sym (fact-as table n 25 e))
+  judges-25 e = plain 1 a (quiet 25 e refl) (sym (fact-as table n reading 25 e))
 
-  pub judges-26 : kind ≡ 26 → Judges table n facts 0 0 a
+  pub judges-26 : kind ≡ 26 → Judges table counts n facts 0 0 a
   unfolding sourced asked once
-  judges-26 e = plain 0 a (quiet 26 e refl) (sym (fact-as table n 26 e))
+  judges-26 e = plain 0 a (quiet 26 e refl) (sym (fact-as table n reading 26 e))
 
 -- what `settled` answers and keeps, in these terms
 
@@ -292,11 +295,11 @@ module _ (table : List ℕ) (v : Visit) (m : Node) (used : Bool) (source questio
       (bool-cases used)
 
   pub settled-judged : m ≡ nodeAt table (v .node) → used ≡ true → v .node < 256
-      → FactsTo table (v .node) (factsPlane before)
-      → Judges table (v .node) (factsPlane before) source question guard
-      → FactsTo table (v .node + 1) (factsPlane after) × (r ≡ guardCode table (v .node))
-  settled-judged here e l known judges =
-      let found : sourced table (factsPlane before) m source ≡ fact table (v .node) = rw here (judges .fact-is) in (
-        plane-more (fact table) (v .node) (factsPlane before) (factsPlane after) l known (s .facts ∙ simp (e, found)),
+      → (reading : ℕ → Statement) → FactsTo table reading (v .node) (factsPlane before)
+      → Judges table reading (v .node) (factsPlane before) source question guard
+      → FactsTo table reading (v .node + 1) (factsPlane after) × (r ≡ guardCode table reading (v .node))
+  settled-judged here e l reading known judges =
+      let found : sourced table (factsPlane before) m source ≡ fact table reading (v .node) = rw here (judges .fact-is) in (
+        plane-more (fact table reading) (v .node) (factsPlane before) (factsPlane after) l known (s .facts ∙ simp (e, found)),
         s .answer ∙ simp (e, found) (judges .rule-is),
       )

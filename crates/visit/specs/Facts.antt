@@ -1,6 +1,7 @@
 -- What the sweep keeps of the nodes for questions 13 to 17, and the refusals by them.
 use mathlib.Core.Bool.{Bool, true, false, cond, not, _&&_, _||_}
 use mathlib.Core.List.{List, [], _∷_}
+use mathlib.Core.Logic.{_⊎_}
 use mathlib.Core.Path.{_≡_}
 use Prim.Native.Nat.{ℕ, _%_, _≤_, _<_}
 use lib.Dec.{eqb}
@@ -8,31 +9,39 @@ use lib.ListN.{length, getD}
 use Rattle.rules.specs.Acceptance.{ruleOf, bodyFlagged}
 use Rattle.rules.specs.Judgement.{single, effect}
 use Rattle.rules.specs.declared.Node.{Node}
-use Rattle.rules.specs.Table.{flagged, effectFlag, nodeAt, statementAt}
+use Rattle.rules.specs.Table.{flagged, effectFlag, nodeAt, statementAt, Statement, nothing}
 use Rattle.table.specs.Marks.{bitAt, withBit}
 use Rattle.visit.specs.declared.Visit.{Visit}
 use Rattle.visit.specs.Fields.{usedPlane, factsPlane, leavesPlane, allPlanes, planeWords}
 use Rattle.visit.specs.Least.{none, code, failure}
 
--- what the sweep keeps of a node for questions 13 to 17: an expression that is not single, or a statement with a global effect.
--- A statement reads as a constant expression, which is single, and an expression as the statement nothing, which has no effect.
-unfoldable pub fact : List ℕ → ℕ → Bool
-fact table n = not (single table n) || effect table n
+-- a reading by which every node counts as what it is or as nothing, and those from n up to `end` as what they are
+pub record Reading (table : List ℕ) (n end : ℕ) : Type 0 where
+  pub counts : ℕ → Statement
+  pub each : (k : ℕ) → (counts k ≡ statementAt table k) ⊎ (counts k ≡ nothing)
+  pub here : (k : ℕ) → n ≤ k → k < end → counts k ≡ statementAt table k
 
--- the least refusal of 13 to 16 at node n
-unfoldable pub ruleCode : List ℕ → ℕ → ℕ
-ruleCode table n = failure (ruleOf table (statementAt table n) .question) n (ruleOf table (statementAt table n) .holds)
+-- by a reading
+module _ (table : List ℕ) (reading : ℕ → Statement) where
+  -- what is kept of a node for questions 13 to 17: an expression that is not single, or a statement with a global effect. A
+  -- statement reads as a constant expression, which is single, and an expression as the statement nothing, which has no effect.
+  unfoldable pub fact : ℕ → Bool
+  fact n = not (single table n) || effect table reading n
 
--- the same where it is not looked at whether a while is left locally
-unfoldable pub guardCode : List ℕ → ℕ → ℕ
-guardCode table n =
-    cond (eqb (nodeAt table n .kind) 20)
-    (failure 16 n (single table (nodeAt table n .a) || not (effect table (nodeAt table n .b))))
-    (ruleCode table n)
+  -- the least refusal of 13 to 16 at node n
+  unfoldable pub ruleCode : ℕ → ℕ
+  ruleCode n = failure (ruleOf table reading (reading n) .question) n (ruleOf table reading (reading n) .holds)
 
--- and of 17 at procedure p
-unfoldable pub flagCode : List ℕ → ℕ → ℕ
-flagCode table p = failure 17 p (bodyFlagged table p)
+  -- the same where it is not looked at whether a while is left locally: a while that counts has its body's effect
+  unfoldable pub guardCode : ℕ → ℕ
+  guardCode n =
+      cond (eqb (nodeAt table n .kind) 20)
+      (failure 16 n (single table (nodeAt table n .a) || not (effect table reading n)))
+      (ruleCode n)
+
+  -- and of 17 at procedure p
+  unfoldable pub flagCode : ℕ → ℕ
+  flagCode p = failure 17 p (bodyFlagged table reading p)
 
 -- the plane of a test once it is known of the nodes below n: one bit for each, and none from there on
 pub record PlaneTo (test : ℕ → Bool) (n : ℕ) (plane : List ℕ) : Type 0 where
@@ -41,8 +50,8 @@ pub record PlaneTo (test : ℕ → Bool) (n : ℕ) (plane : List ℕ) : Type 0 w
   pub clear : (k : ℕ) → n ≤ k → k < 256 → bitAt plane k ≡ false
 
 -- of facts, and of leaves
-abbrev pub FactsTo : List ℕ → ℕ → List ℕ → Type 0
-FactsTo table = PlaneTo (fact table)
+abbrev pub FactsTo : List ℕ → (ℕ → Statement) → ℕ → List ℕ → Type 0
+FactsTo table reading = PlaneTo (fact table reading)
 
 abbrev pub NotedTo : List ℕ → ℕ → List ℕ → Type 0
 NotedTo table = PlaneTo (λ n. eqb (nodeAt table n .kind) 26)

@@ -5,14 +5,14 @@ use finchchaise_compare::{renumber, Random};
 use finchchaise_samples::Builder;
 
 const OWN: u32 = 0;
-const SINGLE: u32 = 1;
+pub const SINGLE: u32 = 1;
 pub const VARIABLES: usize = 2;
 /// Nodes of a loop that is left early.
 const SEARCH: usize = 10;
 const PIECES: usize = 6;
 
 /// Adds a statement of at most so many nodes, 3 or more; the last number says whose turn it is.
-type Piece = fn(&mut Builder, usize, usize) -> u32;
+pub type Piece = fn(&mut Builder, usize, usize) -> u32;
 
 /// An accepted table with this many nodes and procedures. A procedure that has one node left over
 /// calls the one below it; the main one repeats its body for ever if it has the nodes for that.
@@ -26,14 +26,26 @@ pub fn left_early(nodes: usize, procedures: usize) -> Builder {
 }
 
 fn table_of(nodes: usize, procedures: usize, piece: Piece) -> Builder {
+    table_with(nodes, procedures, piece, |table, share, number| {
+        (filled(table, share, number, piece), true)
+    })
+}
+
+/// A body and its effect flag are made for so many nodes and for a procedure's number, from 1.
+pub fn table_with(
+    nodes: usize,
+    procedures: usize,
+    piece: Piece,
+    body: impl Fn(&mut Builder, usize, usize) -> (u32, bool),
+) -> Builder {
     let mut table = Builder::new(VARIABLES as u32, &[SINGLE]);
     for number in 1..=procedures {
         let share = nodes * number / procedures - table.nodes.len();
-        let body = match number == procedures && share > 2 {
-            true => endless(&mut table, share, piece),
-            false => filled(&mut table, share, number, piece),
+        let (body, effect) = match number == procedures && share > 2 {
+            true => (endless(&mut table, share, piece), true),
+            false => body(&mut table, share, number),
         };
-        table.procedure(body, true);
+        table.procedure(body, effect);
     }
     table
 }
@@ -62,7 +74,7 @@ fn endless(table: &mut Builder, nodes: usize, piece: Piece) -> u32 {
 }
 
 /// A statement of just so many nodes, which begins with the piece whose turn it is.
-fn filled(table: &mut Builder, nodes: usize, turn: usize, piece: Piece) -> u32 {
+pub fn filled(table: &mut Builder, nodes: usize, turn: usize, piece: Piece) -> u32 {
     let called = table.procedures.len() as u32;
     match nodes {
         1 if called > 0 => table.call(called - 1),
@@ -81,7 +93,7 @@ fn filled(table: &mut Builder, nodes: usize, turn: usize, piece: Piece) -> u32 {
 }
 
 /// One of `PIECES` statements in turn.
-fn piece(table: &mut Builder, most: usize, turn: usize) -> u32 {
+pub fn piece(table: &mut Builder, most: usize, turn: usize) -> u32 {
     match turn % PIECES {
         0 if most >= 4 => table.increase(OWN),
         1 if most >= 6 => choose(table),

@@ -4,6 +4,7 @@
 mod inputs;
 mod native;
 mod refused;
+mod switched;
 #[cfg(test)]
 mod tests;
 mod work;

@@ -1,7 +1,7 @@
 //! Tables that are refused. Each is an accepted one with a word changed, so that one question fails
 //! first, as late in the table as it can.
 
-use crate::inputs;
+use crate::{inputs, switched};
 use finchchaise::SCRATCH_WORDS;
 use finchchaise_samples::{bytes, Builder};
 
@@ -9,6 +9,7 @@ use finchchaise_samples::{bytes, Builder};
 pub const FULL: &str = "check, N 256, P 16";
 pub const MIXED: &str = "check, N 256, P 16, out of order";
 pub const STATEMENTS: &str = "check, N 255, P 1, statements only";
+pub const SWITCHED: &str = "check, N 256, P 16, switches";
 
 const HEADER: usize = 0;
 const ONE_NODE_LESS: u32 = 1 << 28 | 2 << 22 | 16 << 17 | 255 << 8;
@@ -37,10 +38,11 @@ impl Refused {
     }
 }
 
-/// In the order of the questions.
+/// In the order of the questions, and those of a table with switches once more.
 pub fn all() -> Vec<Refused> {
     let mut all = of_the_whole();
     all.extend(of_contents());
+    all.extend(of_switches());
     all
 }
 
@@ -90,6 +92,24 @@ fn of_contents() -> Vec<Refused> {
     ]
 }
 
+/// What fails counts. Before it, some of what does not count would fail 13 to 17.
+fn of_switches() -> Vec<Refused> {
+    let table = || switched::failing(256, 16);
+    let with_node = |number, node| changed(table(), number, node).bytes();
+    let with_word = |place, word| with_word_in(&table(), place, word);
+    let all = vec![
+        // The single variable takes a sum that is not.
+        refused(13, "", with_node(244, [17, 1, 243, 0])),
+        // A condition compares a variable that is not single, and is no longer fixed.
+        refused(15, "", with_node(145, [1, 0, 0, 0])),
+        // The main body's condition becomes the own number.
+        refused(16, "", with_node(240, [2, 0, 0, 0])),
+        refused(17, "", with_word(MAIN_PROCEDURE, MAIN_BODY)),
+    ];
+    let compared = all.into_iter().map(|one| compared_with(SWITCHED, one));
+    compared.collect()
+}
+
 fn refused(number: u32, how: &'static str, table: Vec<u8>) -> Refused {
     Refused {
         number,
@@ -117,7 +137,11 @@ fn with_node(number: usize, node: [u32; 4]) -> Vec<u8> {
 }
 
 fn with_word(place: usize, word: u32) -> Vec<u8> {
-    let mut words = inputs::table(256, 16).words();
+    with_word_in(&inputs::table(256, 16), place, word)
+}
+
+fn with_word_in(table: &Builder, place: usize, word: u32) -> Vec<u8> {
+    let mut words = table.words();
     words[place] = word;
     bytes(&words)
 }

@@ -1,5 +1,7 @@
 //! The plain Rust answers as the library does, also on tables and states that are not timed.
 
+mod switches;
+
 use crate::refused::{self, Refused};
 use crate::work::{self, Work, LIBRARY, NATIVE};
 use crate::{inputs, native};

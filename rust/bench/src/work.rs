@@ -1,8 +1,8 @@
 //! What is timed. Each piece of work is done by the library and by plain Rust, on buffers of their
 //! own that are equal.
 
-use crate::refused::{self, Refused, FULL, MIXED, STATEMENTS};
-use crate::{inputs, native};
+use crate::refused::{self, Refused, FULL, MIXED, STATEMENTS, SWITCHED};
+use crate::{inputs, native, switched};
 use finchchaise::{Answer, Event, Refusal, Served, TeamStatus, MOST_PROCESSES};
 use finchchaise::{DEPTH_AT, DOORS, PROCESS_WORDS, ROLL_WORDS, SCRATCH_WORDS, STACK, STACK_AT};
 use finchchaise_samples::stocktake;
@@ -91,6 +91,7 @@ pub fn all() -> Vec<Work> {
     all.push(Work::check_out_of_order());
     all.push(Work::check_left_early());
     all.push(Work::check_statements());
+    all.extend(Work::checks_of_switches());
     for (nodes, procedures) in [(16, 1), (256, 16)] {
         all.extend([1, 4, 16].map(|processes| Work::step(nodes, procedures, processes)));
         all.push(Work::exchange(nodes, procedures));
@@ -154,6 +155,15 @@ impl Work {
 
     fn check_statements() -> Work {
         Work::check_of(STATEMENTS.to_string(), inputs::statements(128).bytes())
+    }
+
+    /// Where what is never taken would be refused if it counted, and where not.
+    fn checks_of_switches() -> [Work; 2] {
+        let sound = format!("{SWITCHED}, nothing dead fails");
+        [
+            Work::check_of(SWITCHED.to_string(), switched::failing(256, 16).bytes()),
+            Work::check_of(sound, switched::sound(256, 16).bytes()),
+        ]
     }
 
     fn refused_check(refused: Refused) -> Work {

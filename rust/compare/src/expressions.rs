@@ -1,7 +1,7 @@
 //! Random expressions whose values tell the cases of a kind apart.
 
 use crate::generator::Draft;
-use crate::shape::GATHERED;
+use crate::shape::{CONSTANT, GATHERED};
 
 /// Divisor 0, the last door and the first that is none, process counts, fields that are full.
 const CONSTANTS: [u32; 16] = [
@@ -40,7 +40,11 @@ impl Draft<'_> {
             true => self.random.below(262_144) as u32,
             false => self.random.pick(&CONSTANTS),
         };
-        self.add(0, [0, value / 512, value % 512], false)
+        self.constant_of(value)
+    }
+
+    pub fn constant_of(&mut self, value: u32) -> u32 {
+        self.add(CONSTANT, [0, value / 512, value % 512], false)
     }
 
     fn door(&mut self, budget: usize) -> u32 {

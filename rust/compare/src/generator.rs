@@ -1,8 +1,9 @@
 //! Random tables that pass questions 2 to 12, and that the checker often accepts.
 
+use crate::fixed::{fixed, ruled};
 use crate::order::renumber;
 use crate::random::Random;
-use crate::shape::{EXCHANGE, LEAVE};
+use crate::shape::{EXCHANGE, IF, LEAVE, NOTHING, OWN};
 use finchchaise::GATHERED_AREAS;
 use finchchaise_samples::Builder;
 
@@ -16,6 +17,16 @@ const COUNTED_LOOP: usize = 9;
 /// A table that keeps the rules about single values and leaves, if `careful`, and breaks some of
 /// them otherwise.
 pub fn table(random: &mut Random, careful: bool) -> Builder {
+    drafted(random, careful, false)
+}
+
+/// The same with many switches: ifs with fixed conditions. What stands in their dead branches
+/// breaks the rules either way.
+pub fn switched_table(random: &mut Random, careful: bool) -> Builder {
+    drafted(random, careful, true)
+}
+
+fn drafted(random: &mut Random, careful: bool, switched: bool) -> Builder {
     let size = random.pick(&SIZES);
     let variables = random.pick(&[1, 2, 3, 4, 4, 8, 31, 32]);
     let flags = random.number();
@@ -29,6 +40,8 @@ pub fn table(random: &mut Random, careful: bool) -> Builder {
         areas,
         careful,
         strays,
+        switched,
+        dead: false,
     };
     draft.procedures(size);
     let Draft { random, table, .. } = draft;
@@ -49,6 +62,10 @@ pub(crate) struct Draft<'random> {
     careful: bool,
     /// Whether leaves stand anywhere, also without a while around them.
     strays: bool,
+    /// Whether there are many switches.
+    switched: bool,
+    /// Whether the nodes to come stand in a dead branch.
+    dead: bool,
 }
 
 /// What a statement may hold where it stands, if the rules are kept.
@@ -58,6 +75,19 @@ struct Place {
     quiet: bool,
     /// A leave.
     leave: bool,
+    /// A leave in a dead branch: some while stands around.
+    dead_leave: bool,
+}
+
+impl Place {
+    /// The body of a while.
+    fn in_loop(quiet: bool) -> Place {
+        Place {
+            quiet,
+            leave: true,
+            dead_leave: true,
+        }
+    }
 }
 
 impl Draft<'_> {
@@ -78,6 +108,7 @@ impl Draft<'_> {
             let place = Place {
                 quiet: after > 0 && self.random.one_in(3),
                 leave: false,
+                dead_leave: false,
             };
             let mut body = self.statement(share, place);
             if after == 0 && self.random.one_in(2) {
@@ -109,7 +140,10 @@ impl Draft<'_> {
 
     /// Whether a rule about single values is broken here.
     pub fn slips(&mut self) -> bool {
-        !self.careful && self.random.one_in(8)
+        match self.dead {
+            true => self.random.one_in(2),
+            false => !self.careful && self.random.one_in(8),
+        }
     }
 
     pub fn is_single(&self, variable: u32) -> bool {
@@ -147,6 +181,9 @@ impl Draft<'_> {
     fn statement(&mut self, budget: usize, place: Place) -> u32 {
         let quiet = place.quiet && !self.slips();
         let place = Place { quiet, ..place };
+        if self.switched && budget >= 4 && self.random.one_in(4) {
+            return self.switch(budget, place);
+        }
         let choices = if budget < LARGE { 16 } else { 8 };
         match self.random.below(choices) {
             0..=3 if budget >= 3 => self.sequence(budget, place),
@@ -251,8 +288,61 @@ impl Draft<'_> {
     fn under_local_if(&mut self, place: Place) -> Place {
         Place {
             quiet: place.quiet || !self.slips(),
-            leave: place.leave && (place.quiet || !self.careful),
+            leave: place.leave && (place.quiet || !self.careful || self.dead),
+            ..place
         }
+    }
+
+    /// An if whose condition is fixed or, now and then, nearly. If the rules are kept, only a
+    /// branch that is dead breaks them.
+    fn switch(&mut self, budget: usize, place: Place) -> u32 {
+        let condition = self.random.from(1, (budget - 3).min(9));
+        let (then, otherwise) = self.split(budget - condition);
+        let condition = match self.random.one_in(6) {
+            true => self.nearly_fixed(condition),
+            false => self.fixed(condition),
+        };
+        let value = fixed(&self.table.nodes, condition, ruled);
+        let is_first_dead = value.map_or_else(|| self.random.one_in(2), |value| value == 0);
+        let breaks_rules = value.is_some() || !self.careful;
+        let then = self.branch(then, place, is_first_dead && breaks_rules);
+        let otherwise = self.branch(otherwise, place, !is_first_dead && breaks_rules);
+        let [first, second] = [then, otherwise].map(|branch| self.effects[branch as usize]);
+        let effect = match value {
+            None => first || second,
+            Some(0) => second,
+            Some(_) => first,
+        };
+        self.add(IF, [condition, then, otherwise], effect)
+    }
+
+    /// A branch of a switch, which keeps no rules about single values if it is dead.
+    fn branch(&mut self, budget: usize, place: Place, dead: bool) -> u32 {
+        if !dead {
+            return self.statement(budget, place);
+        }
+        let place = Place {
+            quiet: false,
+            leave: place.dead_leave,
+            ..place
+        };
+        let around = self.dead;
+        self.dead = true;
+        let branch = match self.leaves(place, 3) {
+            true if budget >= 4 => self.local_leave(),
+            true => self.leave(),
+            false => self.statement(budget, place),
+        };
+        self.dead = around;
+        branch
+    }
+
+    /// A leave of some processes.
+    fn local_leave(&mut self) -> u32 {
+        let own = self.add(OWN, [0, 0, 0], false);
+        let leave = self.leave();
+        let nothing = self.add(NOTHING, [0, 0, 0], false);
+        self.add(IF, [own, leave, nothing], false)
     }
 
     /// A while that may well go on for ever.
@@ -262,7 +352,7 @@ impl Draft<'_> {
         let body = budget - 1 - condition;
         let condition = self.expression(condition, single);
         let quiet = quiet || (!single && !self.slips());
-        let body = self.statement(body, Place { quiet, leave: true });
+        let body = self.statement(body, Place::in_loop(quiet));
         self.repeat_of(condition, body)
     }
 
@@ -281,10 +371,7 @@ impl Draft<'_> {
         let left = self.add(1, [variable, 0, 0], false);
         let right = self.add(0, [0, 0, rounds], false);
         let condition = self.add(10, [left, right, 0], false);
-        let place = Place {
-            quiet: place.quiet || !single,
-            leave: true,
-        };
+        let place = Place::in_loop(place.quiet || !single);
         let body = self.statement(budget - COUNTED_LOOP, place);
         let old = self.add(1, [variable, 0, 0], false);
         let one = self.add(0, [0, 0, 1], false);

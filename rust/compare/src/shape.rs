@@ -23,8 +23,15 @@ pub const LAST_STATEMENT: u32 = LEAVE;
 pub const FIRST_COLLECTIVE: u32 = BARRIER;
 pub const LAST_COLLECTIVE: u32 = EXCHANGE;
 
+pub const CONSTANT: u32 = 0;
+pub const VARIABLE: u32 = 1;
+pub const OWN: u32 = 2;
+pub const COUNT: u32 = 3;
 pub const GATHERED: u32 = 5;
+pub const FIRST_OPERATOR: u32 = 6;
+pub const LAST_OPERATOR: u32 = LAST_EXPRESSION;
 pub const NOTHING: u32 = FIRST_STATEMENT;
+pub const IF: u32 = 19;
 pub const WHILE: u32 = 20;
 pub const CALL: u32 = 21;
 pub const BARRIER: u32 = 23;

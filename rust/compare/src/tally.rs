@@ -5,6 +5,7 @@ use crate::both::Team;
 use crate::leaves::{self, Shown, SHOWN};
 use crate::served::{self, Ending, ENDINGS};
 use crate::sources::{self, SOURCES};
+use crate::switches::{self, Switch, SWITCHES};
 use finchchaise::{Answer, Event, Refusal, Served, TeamStatus, GATHERED_AREAS};
 use std::io::Write;
 use std::{fmt, io};
@@ -28,6 +29,8 @@ pub struct Tally {
     pub sources: [usize; SOURCES.len()],
     /// What was shown of gathered areas, in the order of `AREAS`.
     pub areas: [usize; AREAS.len()],
+    /// What was shown of switches, in the order of `SWITCHES`.
+    pub switches: [usize; SWITCHES.len()],
     /// Turns that were served.
     pub made: usize,
     /// How serving ended, in the order of `ENDINGS`.
@@ -42,10 +45,13 @@ impl Tally {
         }
     }
 
-    /// A check, also of what it shows of leaves and areas.
+    /// A check, also of what it shows of leaves, areas and switches.
     pub fn checked(&mut self, table: &[u8], answer: Result<(), Refusal>) {
         self.judged(answer);
         self.named(areas::of_check(table, answer));
+        for switch in switches::of_check(table, answer) {
+            self.switches[switch.place()] += 1;
+        }
         leaves::of_check(table, answer)
             .into_iter()
             .for_each(|shown| self.shown(shown));
@@ -160,6 +166,13 @@ impl Tally {
         }
     }
 
+    pub fn assert_switches(&self, wanted: &[(Switch, usize)]) {
+        for &(switch, least) in wanted {
+            let times = self.switches[switch.place()];
+            assert!(times >= least, "{switch:?} only {times} times: {self}");
+        }
+    }
+
     pub fn assert_endings(&self, wanted: &[(Ending, usize)]) {
         for &(ending, least) in wanted {
             let times = self.endings[ending as usize];
@@ -183,10 +196,10 @@ impl fmt::Display for Tally {
             write!(out, ", {} turns served", self.made)?;
         }
         let words = EVENTS.iter().chain(&TEAMS).chain(&SHOWN).chain(&SOURCES);
-        let words = words.chain(&AREAS).chain(&ENDINGS);
+        let words = words.chain(&AREAS).chain(&SWITCHES).chain(&ENDINGS);
         let times = self.events.iter().chain(&self.teams).chain(&self.leaves);
         let times = times.chain(&self.sources).chain(&self.areas);
-        let times = times.chain(&self.endings);
+        let times = times.chain(&self.switches).chain(&self.endings);
         for (word, times) in words.zip(times) {
             if *times > 0 {
                 write!(out, ", {word} {times}")?;

@@ -2,8 +2,10 @@
 
 use finchchaise::{Answer, Refusal, TeamStatus};
 use finchchaise::{DOORS, LATCHES, MOST_PROCESSES, PROCESS_WORDS, ROLL_WORDS, SCRATCH_WORDS};
-use finchchaise_compare::{check, latches, Area, MadeUp, Plan, Random, Shown, Tally, Team};
-use finchchaise_compare::{damaged, random_bytes, small_table, start_words, table};
+use finchchaise_compare::{check, latches, Area, MadeUp, Plan, Random, Shown, Switch, Tally, Team};
+use finchchaise_compare::{damaged, random_bytes, small_table, switched_table, table};
+use finchchaise_compare::{dead_nodes, start_words};
+use finchchaise_samples::Builder;
 
 const CHECKS_A_SOURCE: usize = 50_000;
 const MOST_TURNS_A_PROCESS: usize = 60;
@@ -11,6 +13,8 @@ const STARTS: usize = 30_000;
 const MADE_UP_TABLES: usize = 6_000;
 const TEAMS_A_TABLE: usize = 10;
 const LATCH_VIEWS: usize = 20_000;
+/// Kinds of fixed conditions: a constant, and all that may be worked out of constants.
+const SWITCHING_KINDS: [u32; 8] = [0, 6, 7, 8, 9, 10, 11, 12];
 
 /// Scratch of the right length mostly, never cleared.
 fn scratch(random: &mut Random) -> Vec<u32> {
@@ -79,6 +83,42 @@ fn checks_of_random_bytes() {
     tally.assert_refused(2..=7, 50);
 }
 
+#[test]
+fn checks_of_switched_tables() {
+    let tally = checks("checks of switched tables", 16, |random| {
+        switched_table(random, true).bytes()
+    });
+    assert!(tally.taken * 10 > tally.calls() * 9, "{tally}");
+    tally.assert_switches(&[(Switch::Accepted, 5_000)]);
+    tally.assert_switches(&[(Switch::DeadLeave, 200), (Switch::DeadCall, 500)]);
+    tally.assert_switches(&[13, 14, 15, 16].map(|number| (Switch::DeadNode(number), 300)));
+    tally.assert_switches(&[15, 16, 17].map(|number| (Switch::DeadEffect(number), 300)));
+    tally.assert_switches(&SWITCHING_KINDS.map(|kind| (Switch::By(kind), 500)));
+    tally.assert_switches(&[(Switch::Wrapped, 300), (Switch::ByZero, 300)]);
+}
+
+#[test]
+fn checks_of_switched_tables_that_break_rules_on_single_values() {
+    let tally = checks("checks of careless switched tables", 17, |random| {
+        switched_table(random, false).bytes()
+    });
+    tally.assert_refused([1, 13, 14, 15, 16, 17, 26], 300);
+    tally.assert_switches(&[(Switch::Accepted, 2_000), (Switch::Nearly, 1_000)]);
+    tally.assert_switches(&[(Switch::Further, 300), (Switch::Later, 500)]);
+    tally.assert_switches(&[(Switch::DeadStray, 300), (Switch::DeadLeave, 100)]);
+}
+
+#[test]
+fn checks_of_damaged_switched_tables() {
+    let tally = checks("checks of damaged switched tables", 18, |random| {
+        let careful = random.one_in(2);
+        damaged(&switched_table(random, careful), random)
+    });
+    tally.assert_refused((1..=17).chain([26]), 50);
+    tally.assert_switches(&[(Switch::Accepted, 500), (Switch::DeadStray, 200)]);
+    tally.assert_switches(&SWITCHING_KINDS.map(|kind| (Switch::By(kind), 50)));
+}
+
 /// A step, and what it shows.
 fn step(team: &mut Team, process: u32, tally: &mut Tally) -> Result<Answer, Refusal> {
     let leaving = team.leaving(process);
@@ -93,17 +133,24 @@ fn step(team: &mut Team, process: u32, tally: &mut Tally) -> Result<Answer, Refu
     answer
 }
 
+/// A random table, careful or not.
+type Source = fn(&mut Random, bool) -> Builder;
+
 #[derive(Default)]
 struct Runs {
     starts: Tally,
     steps: Tally,
+    /// Checks of the tables that were started with equal single variables.
+    checks: Tally,
     /// Runs that came to an end; others loop for ever, or long.
     ended: usize,
 }
 
 impl Runs {
-    /// Steps to the end and a few beyond, in random order; answers the team's last status.
+    /// Steps to the end and a few beyond, in random order; answers the team's last status. Nothing
+    /// in a dead branch is ever come upon.
     fn steps(&mut self, team: &mut Team, count: usize, random: &mut Random) -> TeamStatus {
+        let dead = dead_nodes(team.table());
         let mut last = TeamStatus::Going;
         let mut beyond = 0;
         for _ in 0..count * MOST_TURNS_A_PROCESS {
@@ -115,6 +162,8 @@ impl Runs {
                 Ok(Answer { team, .. }) => last = team,
                 Err(refusal) => assert_eq!((refusal.number, refusal.place), (22, process)),
             }
+            let mut entries = team.stack(process).iter();
+            assert!(entries.all(|&entry| !dead[entry as usize]));
             beyond += (last != TeamStatus::Going) as usize;
             if beyond > 3 {
                 self.ended += 1;
@@ -125,9 +174,9 @@ impl Runs {
     }
 
     /// What demand 3 promises is looked at too: an accepted table does not deadlock.
-    fn run(&mut self, count: usize, random: &mut Random) {
+    fn run(&mut self, source: Source, count: usize, random: &mut Random) {
         let careful = !random.one_in(5);
-        let table = table(random, careful);
+        let table = source(random, careful);
         let bytes = table.bytes();
         let equal = !random.one_in(8);
         let words = start_words(&table, count, equal, random);
@@ -141,21 +190,25 @@ impl Runs {
             return;
         }
         let last = self.steps(&mut team, count, random);
-        let promised = equal && check(&bytes, &mut [1; SCRATCH_WORDS]).is_ok();
-        assert!(!promised || last != TeamStatus::Deadlocked);
+        if equal {
+            let answer = check(&bytes, &mut [1; SCRATCH_WORDS]);
+            self.checks.checked(&bytes, answer);
+            assert!(answer.is_err() || last != TeamStatus::Deadlocked);
+        }
     }
 }
 
 /// As many runs as are asked for come to an end.
-fn runs(what: &str, seed: u64, least: usize, counts: &[usize]) {
+fn runs(what: &str, seed: u64, source: Source, least: usize, counts: &[usize]) -> Runs {
     let mut random = Random::new(seed);
     let mut runs = Runs::default();
     while runs.ended < least {
         let count = random.pick(counts);
-        runs.run(count, &mut random);
+        runs.run(source, count, &mut random);
     }
     runs.starts.show(&format!("runs of {what} ({least} ended)"));
     runs.steps.show(&format!("steps of runs of {what}"));
+    runs.checks.show(&format!("checks of runs of {what}"));
     assert_eq!(
         runs.starts.taken + runs.starts.refused[26],
         runs.starts.calls()
@@ -167,22 +220,27 @@ fn runs(what: &str, seed: u64, least: usize, counts: &[usize]) {
     runs.steps.assert_leaves(&leaves.map(|shown| (shown, 200)));
     runs.steps.assert_sources(200);
     runs.steps.assert_filled(100);
-    runs.steps.assert_areas(&[(Area::Read, 500)]);
+    runs
 }
 
 #[test]
 fn runs_of_few_processes() {
-    runs("few processes", 6, 16_000, &[1, 2, 2, 3, 3, 4]);
+    let runs = runs("few processes", 6, table, 16_000, &[1, 2, 2, 3, 3, 4]);
+    runs.steps.assert_areas(&[(Area::Read, 500)]);
 }
 
 #[test]
 fn runs_of_many_processes() {
-    runs(
-        "many processes",
-        7,
-        4_000,
-        &[5, 6, 8, 11, 15, MOST_PROCESSES],
-    );
+    let counts = [5, 6, 8, 11, 15, MOST_PROCESSES];
+    let runs = runs("many processes", 7, table, 4_000, &counts);
+    runs.steps.assert_areas(&[(Area::Read, 500)]);
+}
+
+#[test]
+fn runs_of_switched_tables() {
+    let counts = [1, 2, 2, 3, 3, 4, 8];
+    let runs = runs("switched tables", 19, switched_table, 8_000, &counts);
+    runs.checks.assert_switches(&[(Switch::Accepted, 1_000)]);
 }
 
 /// As many random words as are asked for, or not quite.

@@ -2,9 +2,10 @@
 //! and both beside the words of the request.
 
 use finchchaise::Refusal;
-use finchchaise_compare::{check, damaged, random_bytes, small_table, table, Random, Tally};
+use finchchaise_compare::{check, damaged, random_bytes, small_table, switched_table, table};
+use finchchaise_compare::{Random, Switch, Tally};
 
-const NEEDED: usize = 24;
+const NEEDED: usize = 32;
 const TOO_SHORT: [usize; 2] = [0, NEEDED - 1];
 const ENOUGH: [usize; 3] = [NEEDED, NEEDED + 1, 256];
 const TABLES_A_SOURCE: usize = 20_000;
@@ -57,6 +58,17 @@ fn scratch_of_tables() {
     });
     assert!(tally.taken > TABLES_A_SOURCE / 2, "{tally}");
     tally.assert_refused((13..=17).chain([26]), 50);
+}
+
+#[test]
+fn scratch_of_switched_tables() {
+    let tally = checks("scratch of switched tables", 20, |random| {
+        let careful = !random.one_in(4);
+        switched_table(random, careful).bytes()
+    });
+    assert!(tally.taken > TABLES_A_SOURCE / 2, "{tally}");
+    tally.assert_refused((13..=17).chain([26]), 50);
+    tally.assert_switches(&[(Switch::Accepted, 2_000), (Switch::Further, 20)]);
 }
 
 #[test]

@@ -42,7 +42,7 @@ pub const MOST_PROCESSES: usize = 16;
 /// Words of roll for each process.
 pub const ROLL_WORDS: usize = 4;
 /// Words of scratch that the checker needs.
-pub const SCRATCH_WORDS: usize = 24;
+pub const SCRATCH_WORDS: usize = 32;
 
 /// The parts of a process's words, in their order: variables first.
 pub const VARIABLES: usize = 32;

@@ -8,7 +8,7 @@ impl Process {
     pub fn value(&self, table: &Table, node: usize) -> u32 {
         let [a, b, c] = table.nodes[node].fields;
         match table.nodes[node].kind {
-            Kind::Constant => (b * 512 + c) as u32,
+            Kind::Constant => constant(b, c),
             Kind::Variable => self.variables[a],
             Kind::OwnNumber => self.number,
             Kind::Count => self.count,
@@ -31,8 +31,13 @@ impl Process {
     }
 }
 
+/// Kind 0, of its fields B and C.
+pub fn constant(b: usize, c: usize) -> u32 {
+    (b * 512 + c) as u32
+}
+
 /// Kinds 6 to 12; question 9 lets no statement be evaluated.
-fn combine(kind: Kind, left: u32, right: u32) -> u32 {
+pub fn combine(kind: Kind, left: u32, right: u32) -> u32 {
     match kind {
         Kind::Sum => left.wrapping_add(right),
         Kind::Difference => left.wrapping_sub(right),

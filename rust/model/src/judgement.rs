@@ -3,7 +3,7 @@
 use crate::refusal::{ask_each, Refusal};
 use crate::table::{Kind, Table};
 
-pub const SCRATCH_WORDS: usize = 24;
+pub const SCRATCH_WORDS: usize = 32;
 
 /// The checker: questions 1 to 12, 26 and 13 to 17. The judgements need no scratch here, so its
 /// first words are only set to 0 as promised.
@@ -16,16 +16,24 @@ pub fn check(table: &[u8], scratch: &mut [u32]) -> Result<(), Refusal> {
         })?
         .fill(0);
     let table = Table::read(table)?;
-    let (nodes, procedures) = (table.nodes.len(), table.procedures.len());
-    ask_each(13, nodes, |node| table.assignment_fits(node))?;
-    ask_each(14, nodes, |node| table.source_is_single(node))?;
-    ask_each(15, nodes, |node| table.if_is_uniform(node))?;
-    ask_each(16, nodes, |node| table.while_is_uniform(node))?;
+    table.ask_live(13, |node| table.assignment_fits(node))?;
+    table.ask_live(14, |node| table.source_is_single(node))?;
+    table.ask_live(15, |node| table.if_is_uniform(node))?;
+    table.ask_live(16, |node| table.while_is_uniform(node))?;
+    let procedures = table.procedures.len();
     ask_each(17, procedures, |number| table.effect_is_flagged(number))
 }
 
 impl Table {
-    /// Whether an expression has the same value in every process.
+    /// A question that is put to the nodes in no dead branch. Most nodes pass anyway, so where a
+    /// node stands is looked at last.
+    fn ask_live(&self, number: u32, passes: impl Fn(usize) -> bool) -> Result<(), Refusal> {
+        let nodes = self.nodes.len();
+        ask_each(number, nodes, |node| passes(node) || !self.is_live(node))
+    }
+
+    /// Whether an expression has the same value in every process. A fixed one has, so it "passes
+    /// wherever single does".
     fn is_single(&self, node: usize) -> bool {
         let [a, b, _] = self.nodes[node].fields;
         match self.nodes[node].kind {
@@ -37,15 +45,19 @@ impl Table {
         }
     }
 
-    /// A call's effect is what the flag says, whatever the body does.
+    /// A call's effect is what the flag says, whatever the body does. Dead branches are not
+    /// "counted for effects".
     fn has_effect(&self, node: usize) -> bool {
-        let [a, b, c] = self.nodes[node].fields;
+        let [a, b, _] = self.nodes[node].fields;
         match self.nodes[node].kind {
             Kind::Barrier | Kind::Broadcast | Kind::Exchange => true,
             Kind::Assign => self.is_flagged(a),
             Kind::Call => self.procedures[a].effect,
             Kind::Sequence => self.has_effect(a) || self.has_effect(b),
-            Kind::If => self.has_effect(b) || self.has_effect(c),
+            Kind::If => {
+                let branches = self.counted_branches(node);
+                branches.into_iter().any(|branch| self.has_effect(branch))
+            }
             Kind::While => self.has_effect(b),
             _ => false,
         }
@@ -78,10 +90,12 @@ impl Table {
     }
 
     /// Whether "a leave stands within the while's body, not in an inner while,
-    /// and under an if whose condition is not single".
+    /// and under an if whose condition is not single". A leave in a dead branch
+    /// is not "counted .. for U1's own conditions".
     fn is_left_locally(&self, node: usize) -> bool {
         (0..self.nodes.len())
             .filter(|&leave| self.while_left(leave) == Some(node))
+            .filter(|&leave| self.is_live(leave))
             .any(|leave| self.stands_under_local_if(leave, node))
     }
 

@@ -19,6 +19,7 @@ mod process;
 mod programs;
 mod refusal;
 mod scheduler;
+mod switches;
 mod table;
 mod team;
 

@@ -123,14 +123,14 @@ fn scratch_is_zeroed_unless_too_short() {
         number: 1,
         place: 0,
     };
-    let mut short = [MARK; 23];
+    let mut short = [MARK; 31];
     assert_eq!(check(&t2(), &mut short), Err(one));
-    assert_eq!(short, [MARK; 23]);
+    assert_eq!(short, [MARK; 31]);
     for table in [t2(), bytes(&T1), vec![]] {
-        let mut scratch = [MARK; 26];
+        let mut scratch = [MARK; 34];
         let _ = check(&table, &mut scratch);
-        assert_eq!(scratch[..24], [0; 24]);
-        assert_eq!(scratch[24..], [MARK; 2]);
+        assert_eq!(scratch[..32], [0; 32]);
+        assert_eq!(scratch[32..], [MARK; 2]);
     }
 }
 

@@ -1,10 +1,10 @@
-//! Every line of tests/vectors/u06.txt through the model.
+//! Every line of tests/vectors/u07.txt through the model.
 
 use finchchaise_model::{check_table, run_team, schedule_team};
 use std::{fs, path::Path};
 
-const VECTORS: &str = "../../tests/vectors/u06.txt";
-const FEWEST_CASES: usize = 463;
+const VECTORS: &str = "../../tests/vectors/u07.txt";
+const FEWEST_CASES: usize = 595;
 const MOST_SHOWN: usize = 5;
 
 /// A line: the program's word, its input and its output in hexadecimal.

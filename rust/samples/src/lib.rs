@@ -6,9 +6,11 @@
 
 mod builder;
 mod rosters;
+mod switches;
 
 pub use builder::{bytes, Builder};
 pub use rosters::rosters;
+pub use switches::{switches, Site};
 
 /// A file of samples/.
 pub struct Sample {
@@ -26,10 +28,14 @@ pub fn samples() -> Vec<Sample> {
         file("search.table", search()),
         file("tariff.table", tariff()),
         file("rosters.table", rosters()),
+        file("switches-north.table", switches(Site::North)),
+        file("switches-south.table", switches(Site::South)),
         file("t2-two.run", t2_two()),
         file("stocktake.run", stocktake_run()),
         file("search.run", search_run()),
         file("tariff.run", tariff_run()),
+        file("switches-north.run", switches::run(Site::North)),
+        file("switches-south.run", switches::run(Site::South)),
         file("stocktake.serve", stocktake_serve()),
         file("rosters.serve", rosters::serve()),
     ]
@@ -126,29 +132,39 @@ fn add_slot(table: &mut Builder, total: u32, slot: u32, area: u32) -> u32 {
 /// so the loop has no global effect and the collective stands behind it.
 pub fn search() -> Vec<u8> {
     let mut table = Builder::new(1, &[]);
-    let find = find_empty(&mut table);
-    let door = table.variable(DOOR);
-    let exchange = table.exchange(door, 0);
-    let door = table.variable(DOOR);
-    let opened = table.constant(1);
-    let open = table.latch(door, opened);
-    let end = table.sequence(exchange, open);
+    let find = find(&mut table, look_alone);
+    let end = tell_and_open(&mut table);
     let body = table.sequence(find, end);
     table.procedure(body, true);
     table.bytes()
 }
 
-/// Ends with the first empty door in DOOR, or with 12 there, whose door word is 0 by the rules.
-fn find_empty(table: &mut Builder) -> u32 {
+/// Door by door until the look leaves, with the door looked at in DOOR.
+fn find(table: &mut Builder, look: impl Fn(&mut Builder) -> u32) -> u32 {
     let always = table.constant(1);
+    let look = look(table);
+    let next = table.increase(DOOR);
+    let body = table.sequence(look, next);
+    table.repeat(always, body)
+}
+
+/// Leaves at an empty door, or with 12 in DOOR, whose door word is 0 by the rules.
+fn look_alone(table: &mut Builder) -> u32 {
     let door = table.variable(DOOR);
     let is_occupied = table.door(door);
     let pass = table.nothing();
     let found = table.leave();
-    let look = table.choose(is_occupied, pass, found);
-    let next = table.increase(DOOR);
-    let body = table.sequence(look, next);
-    table.repeat(always, body)
+    table.choose(is_occupied, pass, found)
+}
+
+/// Behind the search: the exchange, and the latch of the door found.
+fn tell_and_open(table: &mut Builder) -> u32 {
+    let door = table.variable(DOOR);
+    let exchange = table.exchange(door, 0);
+    let door = table.variable(DOOR);
+    let opened = table.constant(1);
+    let open = table.latch(door, opened);
+    table.sequence(exchange, open)
 }
 
 /// Variables of the tariff change: the tariff, the same on all processes, and what is offered at a

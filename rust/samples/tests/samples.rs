@@ -2,7 +2,8 @@
 
 use finchchaise_model::{check_table, run_team, schedule_team};
 use finchchaise_model::{latches, start, step, Arrival, Event, PROCESS_WORDS};
-use finchchaise_samples::{rosters, samples, search, stocktake, tariff, Sample};
+use finchchaise_samples::{rosters, samples, search, stocktake, switches, tariff, Sample, Site};
+use std::collections::BTreeSet;
 use std::fs;
 use std::path::PathBuf;
 
@@ -56,15 +57,30 @@ fn words(text: &str) -> Vec<u32> {
         .collect()
 }
 
+/// The name of the page that explains a file: all before the first - or dot.
+fn page(sample: &Sample) -> &str {
+    sample.name.split(['-', '.']).next().expect("a name")
+}
+
+/// A page without the rows for the other site.
+fn rows_of(site: &str, page: &str) -> String {
+    let other = if site == "north" { "south" } else { "north" };
+    let mark = format!(", {other} |");
+    let rows = page.lines().filter(|line| !line.contains(&mark));
+    rows.collect::<Vec<_>>().join("\n")
+}
+
 #[test]
 fn explanations_list_every_word() {
     for sample in samples() {
         let Some(name) = sample.name.strip_suffix(".table") else {
             continue;
         };
+        let site = name.split_once('-').map_or("", |(_, site)| site);
         let (table, rest) = sample.bytes.as_chunks();
         let table: Vec<u32> = table.iter().copied().map(u32::from_be_bytes).collect();
-        assert_eq!(words(&text(&format!("{name}.md"))), table, "{name}");
+        let text = text(&format!("{}.md", page(&sample)));
+        assert_eq!(words(&rows_of(site, &text)), table, "{name}");
         assert!(rest.is_empty());
     }
 }
@@ -87,7 +103,9 @@ fn assert_printed(session: &str) {
 #[test]
 fn explanations_show_what_is_printed() {
     let mut sessions = 0;
-    for name in ["t1", "t2", "stocktake", "search", "tariff", "rosters"] {
+    let samples = samples();
+    let pages: BTreeSet<&str> = samples.iter().map(page).collect();
+    for name in pages {
         let text = text(&format!("{name}.md"));
         for session in text
             .split("```\n")
@@ -97,7 +115,7 @@ fn explanations_show_what_is_printed() {
             sessions += 1;
         }
     }
-    assert_eq!(sessions, samples().len());
+    assert_eq!(sessions, samples.len());
 }
 
 /// The state after a run, given its start words and turns.
@@ -194,11 +212,69 @@ fn search_with_a_single_door_is_refused() {
     assert_eq!(check_table(&table), "refused 16 11\n");
 }
 
+/// A table of one procedure, with this word for a node.
+fn with_node(mut table: Vec<u8>, node: usize, word: u32) -> Vec<u8> {
+    let begin = 4 * (2 + 1 + node);
+    table[begin..begin + 4].copy_from_slice(&word.to_be_bytes());
+    table
+}
+
 #[test]
 fn tariff_by_own_condition_is_refused() {
-    let mut table = tariff();
     // Node 4 asks for variable 1.
-    let node_4 = 4 * (2 + 1 + 4);
-    table[node_4..node_4 + 4].copy_from_slice(&0x0804_0000_u32.to_be_bytes());
+    let table = with_node(tariff(), 4, 0x0804_0000);
     assert_eq!(check_table(&table), "refused 15 12\n");
+}
+
+#[test]
+fn sites_differ_in_the_word_of_node_0() {
+    let north = with_node(switches(Site::South), 0, 1);
+    assert_eq!(north, switches(Site::North));
+    assert_ne!(north, switches(Site::South));
+}
+
+#[test]
+fn switches_find_the_doors_that_are_said() {
+    let given = start_words("switches-north.run", &switches(Site::North), 2 * 13);
+    let (state, met) = after(&switches(Site::North), &given, 2, 15);
+    assert_eq!(met, [29]);
+    assert_eq!(shown(&state), [[0, 1, 0], [1, 0, 0]]);
+    for words in state.chunks(PROCESS_WORDS) {
+        assert_eq!(areas(words)[0][..2], [1, 0]);
+    }
+    assert_eq!(
+        given,
+        start_words("switches-south.run", &switches(Site::South), 2 * 13)
+    );
+    let (state, met) = after(&switches(Site::South), &given, 2, 27);
+    assert_eq!(met, [6, 6, 6, 29]);
+    assert_eq!(shown(&state), [[0, 0, 1]; 2]);
+    for words in state.chunks(PROCESS_WORDS) {
+        assert_eq!(areas(words)[0][..2], [2, 2]);
+    }
+}
+
+#[test]
+fn a_switch_is_fixed() {
+    for site in [Site::North, Site::South] {
+        let by_count = with_node(switches(site), 0, 0x1800_0000);
+        assert_eq!(check_table(&by_count), "refused 16 27\n");
+        let by_variable = with_node(switches(site), 0, 0x0800_0000);
+        assert_eq!(check_table(&by_variable), "refused 15 21\n");
+        let another_site = with_node(switches(site), 0, 3);
+        assert_eq!(check_table(&another_site), "accepted\n");
+    }
+}
+
+#[test]
+fn what_is_off_is_judged_when_it_is_on() {
+    // Node 7 is the own number, so the slot of node 8 is the process's own.
+    let slip = |site| check_table(&with_node(switches(site), 7, 0x1000_0000));
+    assert_eq!(slip(Site::North), "accepted\n");
+    assert_eq!(slip(Site::South), "refused 16 27\n");
+    // Node 6 names area 4.
+    for site in [Site::North, Site::South] {
+        let slip = with_node(switches(site), 6, 0xC814_0800);
+        assert_eq!(check_table(&slip), "refused 9 6\n");
+    }
 }

@@ -368,7 +368,7 @@ returns-15 c =
     let given = start .pre .0 in
     let noted = c .before .before .before .before .before .before .note-leave .ensures in
     leave-arm _ _ (given .0) (given .1) _ _ _ _ _ _ _ _ _ _ _ node (rw (kind, ← node) at (named-26 _ key))
-    (λ inside fits known. rw node (judges-26 _ _ _ _ (given .0) inside fits known (sym kind ∙ key)))
+    (λ inside fits reading known. rw node (judges-26 _ _ _ _ (given .0) inside fits reading known (sym kind ∙ key)))
     (given .2) (taken .fields15 .ensures) (noted .0) (c .before .before .settled15 .ensures)
     (rw (kind, ← node) at key) (noted .1)
 

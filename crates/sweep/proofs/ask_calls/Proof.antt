@@ -1,10 +1,11 @@
 -- `ask_calls` meets its contract: 12 from the first call that fails it, 26 from the first leave, then the least of 13 to 17.
-use mathlib.Core.Path.{_∙_}
+use mathlib.Core.Logic.{inl}
+use mathlib.Core.Path.{refl, _∙_}
 use native.Mathlib.Omega.{arith}
-use Rattle.rules.specs.Table.{nodes}
+use Rattle.rules.specs.Table.{nodes, statementAt}
 use Rattle.visit.specs.Facts.{guardCode}
 use Rattle.visit.proofs.LeastLaws.{least-high}
-use Rattle.sweep.proofs.FormedLaws.{refused12, accepted12, refused26, unjudged, judged-next, judged-verdict, well-built, rules-whole}
+use Rattle.sweep.proofs.FormedLaws.{refused12, accepted12, refused26, unjudged, judged-next, judged-verdict, well-built}
 use borrow.Author.Needs.{needs}
 use Rattle.sweep.proofs.ask_calls.Statement.{statement}
 use Rattle.sweep.proofs.ask_calls.Tie as tie
@@ -38,7 +39,7 @@ pass-leaves-requires c κs =
     let passed = well-built filled (accepted12 (filled .sized) (called .first) (start .args .judged) (c .before .if1 .left)) in (
       (
         record { well-built = passed; headed = filled .sized .read },
-        omega (arith, kept .least, least-high (guardCode (start .args .table .now)) (nodes (start .args .table .now))),
+        omega (arith, kept .ruled .least, least-high (guardCode (start .args .table .now) (statementAt (start .args .table .now))) (nodes (start .args .table .now))),
         called .size,
       ),
       rw (called .leaves) (kept .noted),
@@ -75,20 +76,13 @@ returns-2 c =
 
 unflagged-requires : tie.Need-unflagged-requires
 unflagged-requires c κs =
-    let walk = c .before .before .before .before .before .before .before .before .before .before .before .before .before .before in
     let start = c .before .before .before .before .before .before .before .before .before .before .before .before .before .before .before .before .before .before in
-    let filled = start .pre .0 .0 in
-    let called = walk .first-call .ensures in
     let leaves = c .before .before .before .before .before .before .before .before .pass-leaves .ensures in
-    let kept = start .pre .1 in (
-      filled,
-      leaves .size,
-      rw (leaves .facts ∙ called .facts) (kept .facts),
-      leaves .least (rw (called .facts) (kept .facts)) ∙ rw (kept .least) (rules-whole (filled .sized)),
-    )
+    (start .pre .0 .0, leaves .size, leaves .high)
 
 verdict-requires : tie.Need-verdict-requires
-verdict-requires c κs = judged-verdict (c .before .before .before .before .before .before .before .before .before .before .before .before .before .before .before .before .before .before .before .pre .0 .0 .sized) (c .unflagged .ensures) .1
+verdict-requires c κs =
+    omega (arith, c .unflagged .ensures, c .before .before .before .before .before .before .before .before .before .pass-leaves .ensures .high)
 
 same-length-3 : tie.Need-same-length-3
 same-length-3 c = search needs
@@ -99,9 +93,15 @@ returns-3 c =
     let past = c .before .before .before .before .before .before .before .before .before .before .before .before in
     let walk = c .before .before .before .before .before .before .before .before .before .before .before .before .before .before .before .before in
     let start = c .before .before .before .before .before .before .before .before .before .before .before .before .before .before .before .before .before .before .before .before in
-    let sized = start .pre .0 .0 .sized in
-    let answer = c .verdict .ensures ∙ judged-verdict sized (c .before .unflagged .ensures) .0 in
-    answer
+    let filled = start .pre .0 .0 in
+    let sized = filled .sized in
+    let called = walk .first-call .ensures in
+    let leaves = c .before .before .before .before .before .before .before .before .before .before .pass-leaves .ensures in
+    let kept = start .pre .1 in
+    let whole = statementAt (start .args .table .now) in
+    c .verdict .ensures
+    ∙ judged-verdict filled whole (λ k. inl refl) (rw (leaves .facts ∙ called .facts) (kept .ruled .facts)) (kept .ruled .least)
+    (leaves .least (rw (called .facts) (kept .ruled .facts))) (c .before .unflagged .ensures)
     ∙ judged-next sized (walk .first-call .ensures .first) _ (past .if1 .left) (loose .first-loose .ensures)
     (c .before .before .before .before .if2 .left) (c .before .before .before .if3 .taken)
 

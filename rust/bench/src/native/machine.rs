@@ -296,7 +296,7 @@ impl Team<'_> {
         let words = &self.processes[number];
         let node = self.table.node(node);
         match node.kind() {
-            0 => return (node.b() * 512 + node.c()) as u32,
+            0 => return node.constant(),
             1 => return words[node.a()],
             2 => return number as u32,
             3 => return self.records.len() as u32,
@@ -312,16 +312,21 @@ impl Team<'_> {
             5 => return looked_up(area_at(node), self.records.len()),
             _ => (),
         }
-        let right = self.value(number, node.b());
-        match node.kind() {
-            6 => left.wrapping_add(right),
-            7 => left.wrapping_sub(right),
-            8 => left.wrapping_mul(right),
-            9 => left.checked_div(right).unwrap_or(0),
-            10 => (left < right) as u32,
-            11 => (left == right) as u32,
-            _ => (left != 0 && right != 0) as u32,
-        }
+        operate(node.kind(), left, self.value(number, node.b()))
+    }
+}
+
+/// Kinds 6 to 12, of the values of their parts.
+#[inline(always)]
+pub fn operate(kind: u32, left: u32, right: u32) -> u32 {
+    match kind {
+        6 => left.wrapping_add(right),
+        7 => left.wrapping_sub(right),
+        8 => left.wrapping_mul(right),
+        9 => left.checked_div(right).unwrap_or(0),
+        10 => (left < right) as u32,
+        11 => (left == right) as u32,
+        _ => (left != 0 && right != 0) as u32,
     }
 }
 

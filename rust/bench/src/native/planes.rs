@@ -1,10 +1,15 @@
-//! Three bits a node, in 24 words: all that is kept of a table's nodes.
+//! Four bits a node, in 32 words: all that is kept of a table's nodes. Most tables need three.
 
 use finchchaise::SCRATCH_WORDS;
 
 const PLANE_WORDS: usize = 8;
 
+/// The words of all planes.
 pub type Scratch = [u32; SCRATCH_WORDS];
+/// Those of the planes before `Dead`, which the pass over the nodes needs.
+pub type PassScratch = [u32; PASS_WORDS];
+pub const PASS_WORDS: usize = Plane::Dead as usize * PLANE_WORDS;
+const _: () = assert!(SCRATCH_WORDS == PASS_WORDS + PLANE_WORDS);
 
 /// One of a node's bits.
 #[derive(Clone, Copy)]
@@ -16,9 +21,11 @@ pub enum Plane {
     Fact,
     /// It leaves: a statement that nothing uses yet, with a leave in it that ends a while around it.
     Leaves,
+    /// A statement in a branch that is never taken.
+    Dead,
 }
 
-pub struct Planes<'words>(&'words mut Scratch);
+pub struct Planes<'words, const WORDS: usize = PASS_WORDS>(&'words mut [u32; WORDS]);
 
 /// A node's word and bit. Neighbours lie in different words, since a word that has just been written
 /// is slow to read. A field that is no node's number has a place too.
@@ -28,9 +35,8 @@ fn place(plane: Plane, node: usize) -> (usize, u32) {
     (word, (node / PLANE_WORDS) as u32 % u32::BITS)
 }
 
-impl Planes<'_> {
-    /// The words hold 0.
-    pub fn of(words: &mut Scratch) -> Planes<'_> {
+impl<const WORDS: usize> Planes<'_, WORDS> {
+    pub fn of(words: &mut [u32; WORDS]) -> Planes<'_, WORDS> {
         Planes(words)
     }
 
@@ -57,9 +63,14 @@ impl Planes<'_> {
         had
     }
 
+    /// A plane's words.
+    fn words(&mut self, plane: Plane) -> &mut [u32; PLANE_WORDS] {
+        &mut self.0.as_chunks_mut().0[plane as usize]
+    }
+
     /// Takes a node that is there, whichever.
     pub fn take_any(&mut self, plane: Plane) -> Option<usize> {
-        let words = &mut self.0.as_chunks_mut::<PLANE_WORDS>().0[plane as usize];
+        let words = self.words(plane);
         let word = words.iter().position(|&bits| bits != 0)?;
         let bit = words[word].trailing_zeros();
         words[word] ^= 1 << bit;
@@ -76,7 +87,18 @@ impl Planes<'_> {
         (0..PLANE_WORDS).map(place).min().unwrap_or(0)
     }
 
+    /// Takes all nodes that are in the other plane.
+    pub fn take_all(&mut self, plane: Plane, other: Plane) {
+        let taken = *self.words(other);
+        let words = self.words(plane).iter_mut().zip(taken);
+        words.for_each(|(word, taken)| *word &= !taken);
+    }
+
+    pub fn clear_plane(&mut self, plane: Plane) {
+        self.words(plane).fill(0);
+    }
+
     pub fn clear(&mut self) {
-        *self.0 = [0; SCRATCH_WORDS];
+        self.0.fill(0);
     }
 }

@@ -1,7 +1,9 @@
 //! Questions 7 to 17 and 26, in one pass over the nodes.
 
-use super::planes::{Plane, Planes, Scratch};
+use super::leaves::{is_left_locally, pass_on};
+use super::planes::{PassScratch, Plane, Planes, Scratch, PASS_WORDS};
 use super::refusal::{call_going_up, misused, question_failed, refused, stray_leave, Fault};
+use super::switches::judge_live;
 use super::table::{has_effect, is_statement, Node, Table, A, B, BEYOND_AREAS, C};
 use finchchaise::{Refusal, SCRATCH_WORDS};
 
@@ -10,21 +12,31 @@ pub fn check(table: &[u8], scratch: &mut [u32]) -> Result<(), Refusal> {
         return refused(1, 0);
     };
     *words = [0; SCRATCH_WORDS];
-    let answer = Table::of(table).and_then(|table| ask::<true>(&table, words));
+    let answer = Table::of(table).and_then(|table| judge(&table, words));
     *words = [0; SCRATCH_WORDS];
     answer
+}
+
+/// Questions 7 to 17 and 26. What 13 to 17 accept of all nodes, they accept of those that count.
+#[inline(always)]
+fn judge(table: &Table, words: &mut Scratch) -> Result<(), Refusal> {
+    let first = words.first_chunk_mut().expect("words of fewer planes");
+    match ask::<true>(table, first) {
+        Err(refusal) if (13..=17).contains(&refusal.number) => judge_live(table, words, refusal),
+        answer => answer,
+    }
 }
 
 /// A table that has passed questions 2 to 12 and 26.
 pub fn read(table: &[u8]) -> Result<Table<'_>, Refusal> {
     let table = Table::of(table)?;
-    ask::<false>(&table, &mut [0; SCRATCH_WORDS])?;
+    ask::<false>(&table, &mut [0; PASS_WORDS])?;
     Ok(table)
 }
 
-/// Questions 7 to 12 and 26, and 13 to 17 if the table is judged. The words are 0.
+/// Questions 7 to 12 and 26, and 13 to 17 of all nodes if the table is judged. The words are 0.
 #[inline(always)]
-fn ask<const JUDGED: bool>(table: &Table, words: &mut Scratch) -> Result<(), Refusal> {
+fn ask<const JUDGED: bool>(table: &Table, words: &mut PassScratch) -> Result<(), Refusal> {
     let mut reader = Reader::<JUDGED>::of(table, words);
     match reader.read() {
         Some(()) => reader.answer(),
@@ -54,7 +66,7 @@ struct Reader<'table, const JUDGED: bool> {
 }
 
 impl<'table, const JUDGED: bool> Reader<'table, JUDGED> {
-    fn of(table: &'table Table, words: &'table mut Scratch) -> Self {
+    fn of(table: &'table Table, words: &'table mut PassScratch) -> Self {
         Reader {
             table,
             planes: Planes::of(words),
@@ -285,27 +297,17 @@ impl<const JUDGED: bool> Reader<'_, JUDGED> {
         Some(effect)
     }
 
-    /// The node takes over the leaves of its parts, which are not marked as used yet.
+    /// The parts are not marked as used yet.
     #[inline(always)]
-    fn pass_on(&mut self, first: usize, second: usize, mut local: bool) {
-        let planes = &mut self.planes;
-        let leaves = |part| planes.has(Plane::Leaves, part);
-        if !self.has_leaves || !(leaves(first) || leaves(second)) {
-            return;
-        }
-        for part in [first, second] {
-            local |= planes.take(Plane::Leaves, part) && planes.has(Plane::Used, part);
-        }
-        planes.put(Plane::Leaves, self.before.len());
-        if local {
-            planes.put(Plane::Used, self.before.len());
+    fn pass_on(&mut self, first: usize, second: usize, local: bool) {
+        if self.has_leaves {
+            pass_on(&mut self.planes, self.before.len(), [first, second], local);
         }
     }
 
-    /// Of a while's body, which is not marked as used yet. Its leaves end here.
+    /// Of a while's body, which is not marked as used yet.
     #[inline(always)]
     fn is_left_locally(&mut self, body: usize) -> bool {
-        let planes = &mut self.planes;
-        self.has_leaves && planes.take(Plane::Leaves, body) && planes.has(Plane::Used, body)
+        self.has_leaves && is_left_locally(&mut self.planes, body)
     }
 }

@@ -74,11 +74,14 @@ pub fn misused(table: &Table, planes: &mut Planes) -> usize {
     planes.lowest(|[once, again, _]| !once | again)
 }
 
+/// The plane of the walk of question 12. The facts may be needed after it.
+const WAITS: Plane = Plane::Used;
+
 /// Question 12 of procedures that do not lie in blocks: the lowest call that goes to its own
 /// procedure or a higher one.
 #[inline(never)]
 pub fn call_going_up(table: &Table, planes: &mut Planes) -> Fault {
-    planes.clear();
+    planes.clear_plane(WAITS);
     let procedures = 0..table.procedures.len();
     let calls = procedures.map(|procedure| call_in(table, planes, procedure));
     calls.min().unwrap_or(Fault::NONE)
@@ -87,7 +90,6 @@ pub fn call_going_up(table: &Table, planes: &mut Planes) -> Fault {
 /// The same of one procedure. Walks down its statements; where both parts may hold a call, one
 /// waits.
 fn call_in(table: &Table, planes: &mut Planes, procedure: usize) -> Fault {
-    const WAITS: Plane = Plane::Used;
     let mut fault = Fault::NONE;
     let mut holds = |statement: usize| {
         let node = table.node(statement);

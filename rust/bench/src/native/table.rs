@@ -51,6 +51,12 @@ impl Node {
         (self.0 & 0x1FF) as usize
     }
 
+    /// The value of a constant.
+    #[inline(always)]
+    pub fn constant(self) -> u32 {
+        (self.b() * 512 + self.c()) as u32
+    }
+
     /// `None` if one of these fields, or parts of them, for which its kind has no use, is not 0.
     #[inline(always)]
     pub fn unnamed(self, fields: u32) -> Option<()> {

@@ -7,24 +7,21 @@ use borrow.Author.Needs.{needs}
 use Rattle.process.proofs.evaluation.leaf.Statement.{statement}
 use Rattle.process.proofs.evaluation.leaf.Tie as tie
 
-mul-result : tie.Need-mul-result
-mul-result c = search needs
-
-add-result : tie.Need-add-result
-add-result c = search needs
+constant-requires : tie.Need-constant-requires
+constant-requires c κs = search needs
 
 returns : tie.Need-returns
 unfolding valueOf expressionOf
-returns c = λ part. simp (c .before .before .if1 .taken)
+returns c = λ part. simp (c .before .if1 .taken) (c .constant .ensures)
 
 cast-a : tie.Need-cast-a
 cast-a c = search needs
 
-mul-result-2 : tie.Need-mul-result-2
-mul-result-2 c = search needs
+mul-result : tie.Need-mul-result
+mul-result c = search needs
 
 shared-slice-read-result : tie.Need-shared-slice-read-result
-shared-slice-read-result c = omega (arith, c .before .before .before .before .pre .1 (c .before .before .if2 .taken))
+shared-slice-read-result c = omega (arith, c .before .before .before .before .before .pre .1 (c .before .before .if2 .taken))
 
 returns-2 : tie.Need-returns-2
 unfolding valueOf expressionOf
@@ -38,18 +35,17 @@ returns-4 : tie.Need-returns-4
 unfolding valueOf expressionOf
 returns-4 c =
     λ part.
-    let e : c .before .before .before .args .node .kind ≡ 3 = omega arith in
+    let e : c .before .before .before .before .args .node .kind ≡ 3 = omega arith in
     simp e
 
 pub leaf-spec : {M : Type 1} → statement M
 leaf-spec =
     tie.close
     (tie.spec
-    mul-result
-    add-result
+    constant-requires
     returns
     cast-a
-    mul-result-2
+    mul-result
     shared-slice-read-result
     returns-2
     returns-3

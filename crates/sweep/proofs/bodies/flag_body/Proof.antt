@@ -1,9 +1,10 @@
--- `bodies::flag_body` meets its contract: the body is a statement, so its bit in the lent plane of facts is its effect.
+-- `bodies::flag_body` meets its contract: the bit of the body stands in the lent plane of facts.
 use native.Mathlib.Omega.{arith}
 use borrow.Author.Needs.{needs}
 use mathlib.Core.Path.{sym, _∙_}
+use Rattle.visit.specs.Fields.{factsPlane}
 use Rattle.visit.proofs.LeastLaws.{passed, failed}
-use Rattle.sweep.proofs.BodyLaws.{body-lent, marked-effect, flag-local, flag-set, flag-missing}
+use Rattle.sweep.proofs.BodyLaws.{body-lent, marked-body, flag-local, flag-set, flag-missing}
 use Rattle.sweep.proofs.bodies.flag_body.Statement.{statement}
 use Rattle.sweep.proofs.bodies.flag_body.Tie as tie
 
@@ -22,7 +23,7 @@ body-requires c κs = search needs
 marked-requires : tie.Need-marked-requires
 marked-requires c κs =
     let start = c .before .before .before .before in
-    let given = start .pre .0 in
+    let given = start .pre in
     body-lent (given .0) (given .1) (start .args .planes .now) (given .2) (c .body .ensures)
 
 returns : tie.Need-returns
@@ -32,9 +33,8 @@ returns c =
     let start = read .before .before .before .before in
     let given = start .pre in
     let effect =
-    marked-effect (given .0 .0) (given .0 .1) (start .args .planes .now) (given .0 .2) (given .1)
-    (read .body .ensures) (asked .marked .ensures) in
-    omega (arith, flag-local _ _ (failed effect (c .if1 .taken)), given .0 .3)
+    marked-body (given .0) (given .1) (start .args .planes .now) (given .2) (read .body .ensures) (asked .marked .ensures) in
+    omega (arith, flag-local _ _ _ (failed effect (c .if1 .taken)), given .3)
 
 effect-flag-requires : tie.Need-effect-flag-requires
 effect-flag-requires c κs = search needs
@@ -42,8 +42,9 @@ effect-flag-requires c κs = search needs
 returns-2 : tie.Need-returns-2
 returns-2 c =
     let flag = c .before in
-    let given = flag .before .before .before .before .before .before .before .pre .0 in
-    omega (arith, flag-set _ _ (sym (flag .effect-flag .ensures) ∙ c .if2 .taken), given .3)
+    let start = flag .before .before .before .before .before .before .before in
+    let given = start .pre in
+    omega (arith, flag-set _ (factsPlane (start .args .planes .now)) _ (sym (flag .effect-flag .ensures) ∙ c .if2 .taken), given .3)
 
 worse-requires : tie.Need-worse-requires
 worse-requires c κs = search needs
@@ -57,10 +58,9 @@ returns-3 c =
     let start = read .before .before .before .before in
     let given = start .pre in
     let effect =
-    marked-effect (given .0 .0) (given .0 .1) (start .args .planes .now) (given .0 .2) (given .1)
-    (read .body .ensures) (asked .marked .ensures) in
+    marked-body (given .0) (given .1) (start .args .planes .now) (given .2) (read .body .ensures) (asked .marked .ensures) in
     let missing = sym (flag .effect-flag .ensures) ∙ c .before .if2 .left in
-    omega (arith, flag-missing _ _ (passed effect (left .if1 .left)) missing, c .worse .ensures)
+    omega (arith, flag-missing _ _ _ (passed effect (left .if1 .left)) missing, c .worse .ensures)
 
 pub flag-body-spec : {M : Type 1} → statement M
 flag-body-spec =

@@ -1,4 +1,4 @@
--- `none_marked` meets its contract: the words passed are 0.
+-- `marks::none_marked` meets its contract: the words passed are 0.
 use mathlib.Core.Path.{_≡_, sym}
 use Prim.Native.Nat.{_-_, _≤_}
 use native.Mathlib.Omega.{arith}
@@ -6,8 +6,8 @@ use lib.Dec.{eqb}
 use lib.ListN.{length, getD}
 use borrow.Author.Tests.{eq-eqb, ne-eqb}
 use Rattle.rules.proofs.ChoiceLaws.{Passed, passed-none, passed-more, all-true, all-false}
-use Rattle.leaves.proofs.none_marked.Statement.{statement}
-use Rattle.leaves.proofs.none_marked.Tie as tie
+use Rattle.table.proofs.marks.none_marked.Statement.{statement}
+use Rattle.table.proofs.marks.none_marked.Tie as tie
 
 abbrev Inv-loop : tie.InvT-loop
 Inv-loop marks count i₀ i = (i ≤ length marks) × Passed (λ k. eqb (getD marks k 0) 0) i

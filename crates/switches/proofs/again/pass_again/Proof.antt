@@ -1,0 +1,70 @@
+-- `again::pass_again` meets its contract. The loop's invariant: the nodes so far that count are passed.
+use mathlib.Core.Path.{_≡_, sym, _∙_}
+use Prim.Native.Nat.{_-_, _≤_}
+use native.Mathlib.Omega.{arith}
+use Rattle.leaves.specs.Leaves.{PassedTo}
+use Rattle.leaves.proofs.PassLaws.{passed-none, passed-all}
+use Rattle.process.proofs.ReadLaws.{header-nodes}
+use Rattle.rules.specs.Judgement.{counted}
+use Rattle.rules.specs.Table.{nodes}
+use Rattle.switches.specs.Again.{Beside}
+use Rattle.switches.specs.Aside.{workPlanes}
+use Rattle.switches.proofs.FourLaws.{work-length}
+use Rattle.switches.proofs.again.pass_again.Statement.{statement}
+use Rattle.switches.proofs.again.pass_again.Tie as tie
+
+abbrev Inv-loop : tie.InvT-loop
+Inv-loop table header planes₀ rule count reached₀ planes reached =
+    (reached .node ≤ nodes table) × Beside table planes
+    × PassedTo table (counted table) rule (workPlanes planes₀) (reached .node) (workPlanes planes) (reached .rule)
+
+abbrev μ-loop : tie.MeasureT-loop
+μ-loop table header planes₀ rule count reached₀ planes reached = count - reached .node
+
+loop-holds : tie.Need-loop-holds Inv-loop μ-loop
+loop-holds c =
+    let start = c .before .before in
+    let (read, beside, high) = start .pre .0 in
+    let planes = start .args .planes .now in (
+      omega arith,
+      beside,
+      passed-none _ _ _ (workPlanes planes) high (work-length planes (beside .size)) (start .pre .1 .0) (start .pre .1 .1),
+    )
+
+pass-stretch-requires : tie.Need-pass-stretch-requires Inv-loop μ-loop
+pass-stretch-requires c κs =
+    let read = c .before .before .before .before .before .before .pre .0 .0 in
+    let so-far = c .before .before .before .loop .inv in
+    (read, omega (arith, header-nodes read), so-far .1, so-far .2 .high)
+
+loop-less : tie.Need-loop-less Inv-loop μ-loop
+loop-less c = omega (arith, c .before .before .pass-stretch .ensures .0 .more)
+
+loop-again : tie.Need-loop-again Inv-loop μ-loop
+loop-again c =
+    let (onward, beside, passed) = c .before .before .pass-stretch .ensures in
+    (onward .within, beside, passed _ _ (c .before .before .before .before .before .before .loop .inv .2))
+
+same-length : tie.Need-same-length Inv-loop μ-loop
+same-length c = c .before .before .loop .inv .1 .size ∙ sym (c .before .before .before .before .before .pre .0 .1 .size)
+
+returns : tie.Need-returns Inv-loop μ-loop
+returns c =
+    let start = c .before .before .before .before .before in
+    let loop = c .before .before .loop in
+    let all : loop .reached .node ≡ nodes (start .args .table .now) =
+    omega (arith, loop .inv .0, header-nodes (start .pre .0 .0)) in
+    (loop .inv .1, passed-all _ _ _ _ (loop .inv .2) all)
+
+pub pass-again-spec : {M : Type 1} → statement M
+pass-again-spec =
+    tie.close
+    (tie.spec
+    Inv-loop
+    μ-loop
+    loop-holds
+    pass-stretch-requires
+    loop-less
+    loop-again
+    same-length
+    returns)

@@ -1,0 +1,134 @@
+-- `judge_counted` meets its contract: facts, rules and leaves by the nodes that count, and the least refusal by them.
+use mathlib.Core.Path.{_∙_, ap}
+use native.Mathlib.Omega.{arith}
+use borrow.Rule.Slice.PartMut.{midOf, putMid}
+use lib.ListN.{length}
+use Rattle.rules.specs.Judgement.{counted}
+use Rattle.rules.specs.Table.{nodes}
+use Rattle.sweep.proofs.FormedLaws.{well-filled, judged-verdict}
+use Rattle.table.proofs.BitLaws.{cleared}
+use Rattle.visit.specs.Facts.{guardCode, FactsTo}
+use Rattle.visit.specs.Fields.{factsPlane, allPlanes}
+use Rattle.visit.proofs.LeastLaws.{least-high}
+use Rattle.switches.specs.Aside.{workPlanes}
+use Rattle.switches.proofs.AsideLaws.{each-counted}
+use Rattle.switches.proofs.FourLaws.{work-length, work-put-work, beside-work}
+use borrow.Author.Needs.{needs}
+use Rattle.switches.proofs.judge_counted.Statement.{statement}
+use Rattle.switches.proofs.judge_counted.Tie as tie
+
+sub-clear : tie.Need-sub-clear
+sub-clear c = search needs
+
+part-clear-start : tie.Need-part-clear-start
+part-clear-start c = search needs
+
+part-clear-end : tie.Need-part-clear-end
+part-clear-end c = search needs
+
+clear-requires : tie.Need-clear-requires
+clear-requires c κs = search needs
+
+visit-again-requires : tie.Need-visit-again-requires
+visit-again-requires c κs =
+    let start = c .before .before .before .before .before .before .before in
+    let planes = start .args .planes .now in
+    let beside = start .pre .1 in
+    let words = c .before .before .before .clear .last .0 in
+    let zero = cleared words (midOf 0 allPlanes planes) (c .before .before .before .clear .ensures) (work-length planes (beside .size)) in
+    let many = ap length zero in (
+      start .pre .0,
+      beside-work planes (beside .size) words many beside,
+      work-put-work planes (beside .size) words many ∙ zero,
+    )
+
+sub-clear-leaves : tie.Need-sub-clear-leaves
+sub-clear-leaves c = search needs
+
+part-clear-leaves-start : tie.Need-part-clear-leaves-start
+part-clear-leaves-start c = search needs
+
+part-clear-leaves-end : tie.Need-part-clear-leaves-end
+part-clear-leaves-end c = search needs
+
+clear-leaves-requires : tie.Need-clear-leaves-requires
+clear-leaves-requires c κs = search needs
+
+pass-again-requires : tie.Need-pass-again-requires
+pass-again-requires c κs =
+    let start = c .before .before .before .before .before .before .before .before .before .before .before .before .before .before .before in
+    let table = start .args .table .now in
+    let visited = c .before .before .before .before .before .before .before .visit-again .ensures in
+    let planes = c .before .before .before .before .before .before .before .visit-again .last .1 .1 .0 in
+    let clear = c .before .before .before .clear-leaves .ensures in
+    let words = c .before .before .before .clear-leaves .last .0 in
+    let same = work-put-work planes (visited .0 .size) words (clear .size) in (
+      (
+        start .pre .0,
+        beside-work planes (visited .0 .size) words (clear .size) (visited .0),
+        omega (arith, visited .1 .ruled .least, least-high (guardCode table (counted table)) (nodes table)),
+      ),
+      (rw same (clear .left), rw same (clear .held)),
+    )
+
+sub-unflagged : tie.Need-sub-unflagged
+sub-unflagged c = search needs
+
+part-unflagged-start : tie.Need-part-unflagged-start
+part-unflagged-start c = search needs
+
+part-unflagged-end : tie.Need-part-unflagged-end
+part-unflagged-end c = search needs
+
+unflagged-requires : tie.Need-unflagged-requires
+unflagged-requires c κs =
+    let read = c .before .before .before .before .before .before .before .before .before .before .before .before .before .before .before .before .before .before .before .before .pre .0 in
+    let passed = c .before .before .before .before .pass-again .ensures in (
+      well-filled (read .well-formed) (read .headed),
+      passed .1 .size,
+      passed .1 .high,
+    )
+
+verdict-requires : tie.Need-verdict-requires
+verdict-requires c κs = search needs
+
+same-length : tie.Need-same-length
+same-length c = search needs
+
+returns : tie.Need-returns
+returns c =
+    let read = c .before .before .before .before .before .before .before .before .before .before .before .before .before .before .before .before .before .before .before .before .before .before .pre .0 in
+    let table = c .before .before .before .before .before .before .before .before .before .before .before .before .before .before .before .before .before .before .before .before .before .before .args .table .now in
+    let visited = c .before .before .before .before .before .before .before .before .before .before .before .before .before .before .visit-again .ensures in
+    let planes = c .before .before .before .before .before .before .before .before .before .before .before .before .before .before .visit-again .last .1 .1 .0 in
+    let clear = c .before .before .before .before .before .before .before .before .before .before .clear-leaves .ensures in
+    let words = c .before .before .before .before .before .before .before .before .before .before .clear-leaves .last .0 in
+    let passed = c .before .before .before .before .before .before .pass-again .ensures .1 in
+    let same = work-put-work planes (visited .0 .size) words (clear .size) in
+    let facts : FactsTo table (counted table) (nodes table) (factsPlane (workPlanes (putMid 0 allPlanes planes words))) =
+    rw (same, clear .facts) (visited .1 .ruled .facts) in
+    c .verdict .ensures
+    ∙ judged-verdict (well-filled (read .well-formed) (read .headed)) (counted table) (each-counted table) (rw (passed .facts) facts)
+    (visited .1 .ruled .least) (passed .least facts) (c .before .unflagged .ensures)
+
+pub judge-counted-spec : {M : Type 1} → statement M
+judge-counted-spec =
+    tie.close
+    (tie.spec
+    sub-clear
+    part-clear-start
+    part-clear-end
+    clear-requires
+    visit-again-requires
+    sub-clear-leaves
+    part-clear-leaves-start
+    part-clear-leaves-end
+    clear-leaves-requires
+    pass-again-requires
+    sub-unflagged
+    part-unflagged-start
+    part-unflagged-end
+    unflagged-requires
+    verdict-requires
+    same-length
+    returns)

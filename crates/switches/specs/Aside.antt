@@ -1,0 +1,62 @@
+-- The fourth plane: the statements that stand in dead branches.
+use mathlib.Core.Bool.{Bool, true, false, cond}
+use mathlib.Core.List.{List, [], _∷_}
+use mathlib.Core.Path.{_≡_}
+use Prim.Native.Nat.{ℕ, _+_, _≤_, _<_}
+use lib.Dec.{eqb}
+use lib.ListN.{length, take, drop}
+use Rattle.rules.specs.Judgement.{Fixing, fixed, unfixed, fixing, live, counted}
+use Rattle.rules.specs.Table.{nodes, statementAt}
+use Rattle.rules.specs.Table.{Statement, nothing, assign, sequence, branch, loop, call, latch, collective, leave}
+use Rattle.rules.specs.WellFormed.{isStatement}
+use Rattle.table.specs.Marks.{bitAt, withBits}
+use Rattle.visit.specs.Fields.{planeWords, allPlanes}
+
+-- it lies behind the planes of the sweep
+abbrev pub fourPlanes : ℕ
+fourPlanes = allPlanes + planeWords
+
+abbrev pub workPlanes : List ℕ → List ℕ
+workPlanes planes = take allPlanes planes
+
+abbrev pub asidePlane : List ℕ → List ℕ
+asidePlane planes = drop allPlanes planes
+
+-- the parts of a statement that are statements
+unfoldable pub innerParts : Statement → List ℕ
+innerParts nothing = []
+innerParts (assign a b) = []
+innerParts (sequence a b) = a ∷ b ∷ []
+innerParts (branch a b c) = b ∷ c ∷ []
+innerParts (loop a b) = b ∷ []
+innerParts (call p) = []
+innerParts (latch a b) = []
+innerParts (collective k) = []
+innerParts leave = []
+
+-- the branch of an if that will never be taken, where there is one
+abbrev pub neverOf : Fixing → ℕ → ℕ → List ℕ
+neverOf (fixed v) first second = cond (eqb v 0) first second ∷ []
+neverOf unfixed first second = []
+
+unfoldable pub neverParts : List ℕ → Statement → List ℕ
+neverParts table nothing = []
+neverParts table (assign a b) = []
+neverParts table (sequence a b) = []
+neverParts table (branch a b c) = neverOf (fixing table a) b c
+neverParts table (loop a b) = []
+neverParts table (call p) = []
+neverParts table (latch a b) = []
+neverParts table (collective k) = []
+neverParts table leave = []
+
+-- the marks once node n is passed on the way down
+unfoldable pub asideMarks : List ℕ → ℕ → List ℕ → List ℕ
+asideMarks table n marks =
+    cond (bitAt marks n) (withBits marks (innerParts (statementAt table n))) (withBits marks (neverParts table (statementAt table n)))
+
+-- what is marked is a statement of a dead branch; what is not counts as what it is
+pub record Aside (table marks : List ℕ) : Type 0 where
+  pub size : length marks ≡ planeWords
+  pub dead : (k : ℕ) → k < 256 → bitAt marks k ≡ true → (isStatement table k ≡ true) × (live table k ≡ false)
+  pub counts : (k : ℕ) → k < nodes table → bitAt marks k ≡ false → counted table k ≡ statementAt table k
