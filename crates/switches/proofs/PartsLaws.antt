@@ -11,7 +11,8 @@ use Rattle.rules.specs.WellFormed.{isExpression, statementPart}
 use Rattle.rules.proofs.Formed.{Formed}
 use Rattle.rules.proofs.KindLaws.{by-kind, sequence-of, branch-of, loop-of, statement-here, sequence-fields, branch-fields, loop-fields}
 use Rattle.rules.proofs.ValueLaws.{statement-part-below, expression-part-below, expression-part-sort}
-use Rattle.switches.specs.Aside.{innerParts, neverOf, neverParts}
+use Rattle.table.specs.Marks.{bitAt, withBits}
+use Rattle.switches.specs.Aside.{innerParts, neverOf, neverParts, asideMarks}
 
 pub chosen-few : (test : Bool) {b c r : ℕ} → b < 256 → c < 256 → r ≡ cond test b c → r < 256
 chosen-few true l m e = omega arith
@@ -75,3 +76,17 @@ module _ (table : List ℕ) (n : ℕ) where
   other-never no19 =
       by-kind (λ s. neverParts table s ≡ []) (nodeAt table n) (λ e. refl) (λ e. refl) (λ e. absurd (no19 e)) (λ e. refl)
       (λ e. refl) (λ e. refl) (λ e. refl) (λ e. refl) (λ e. refl) (λ e. refl) refl
+
+-- and nothing is marked at one below 18
+pub plain-marks : (table : List ℕ) (n : ℕ) (marks : List ℕ) → nodeAt table n .kind < 18 → asideMarks table n marks ≡ marks
+unfolding asideMarks withBits
+plain-marks table n marks low =
+    rw (
+      other-inner table n (λ e. omega (arith, e)) (λ e. omega (arith, e)) (λ e. omega (arith, e)),
+      other-never table n (λ e. omega (arith, e)),
+    )
+    (same (bitAt marks n))
+  where
+    same : (test : Bool) → cond test marks marks ≡ marks
+    same true = refl
+    same false = refl

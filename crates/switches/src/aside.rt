@@ -15,6 +15,7 @@ use process::fixing::fixing;
 use table::Header;
 use table::marks::mark;
 use table::marks::marked;
+use table::words::kind_at;
 use table::words::node_at;
 
 // Both of two statements.
@@ -63,10 +64,14 @@ fn set_branch(table: &[u8], header: Header, aside: &mut [u32], n: usize)
     mark(aside, not_taken(value, node.b, node.c) as usize);
 }
 
+// Most nodes are expressions, and no kind below 18 has a statement as a part.
 fn set_node(table: &[u8], header: Header, aside: &mut [u32], n: usize)
     requires { ⌜ Read (now table) header × (n < nodes (now table)) × (length (now aside) ≡ planeWords) ⌝ }
     ensures { λ _. ⌜ now (aside .exit) ≡ asideMarks (now (table .entry)) n (now (aside .entry)) ⌝ }
 {
+    if kind_at(table, header, n) < 18 {
+        return;
+    }
     if marked(aside, n) {
         set_parts(table, header, aside, n);
     } else {

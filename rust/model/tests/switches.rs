@@ -27,10 +27,10 @@ const DEAD_LEAVE: [u32; 7] = [
     0x10420400, 0x00000000, 0x03000000, 0x00000000, 0xD0000000, 0x80000000, 0x98000202,
 ];
 
-/// While 1: if 0 then (if own number then leave else nothing) else barrier.
-const SWITCHED_LEAVE: [u32; 12] = [
-    0x10420900, 0x00000000, 0x08800000, 0x00000001, 0x00000000, 0x10000000, 0xD0000000, 0x80000000,
-    0x98080604, 0xB8000000, 0x98040A06, 0xA0000E00,
+/// While 1: (if own number then (if 0 then leave else nothing) else nothing), then barrier.
+const SWITCHED_LEAVE: [u32; 14] = [
+    0x10420B00, 0x00000000, 0x0A800000, 0x00000001, 0x10000000, 0x00000000, 0xD0000000, 0x80000000,
+    0x98080604, 0x80000000, 0x98040A06, 0xB8000000, 0x901C1000, 0xA0001200,
 ];
 
 /// What a check says of a table with some words changed.
@@ -55,7 +55,7 @@ fn marked_switches_are_judged_as_written() {
     assert_eq!(judged(&DEAD_ASSIGNMENT, &live_effect), "refused 17 0\n");
     assert_eq!(judged(&DEAD_LEAVE, &[]), "refused 26 1\n");
     assert_eq!(judged(&SWITCHED_LEAVE, &[]), "accepted\n");
-    assert_eq!(judged(&SWITCHED_LEAVE, &[(4, count)]), "refused 16 8\n");
+    assert_eq!(judged(&SWITCHED_LEAVE, &[(5, count)]), "refused 16 10\n");
 }
 
 /// If own number then barrier else nothing: what 15 refuses, at node 3.

@@ -22,7 +22,9 @@ part-set-aside-end : tie.Need-part-set-aside-end
 part-set-aside-end c = search needs
 
 set-aside-requires : tie.Need-set-aside-requires
-set-aside-requires c κs = (c .before .before .before .pre .0, aside-lent (c .before .before .before .args .planes .now) (c .before .before .before .pre .1) ∙ c .before .before .before .pre .2)
+set-aside-requires c κs =
+    let start = c .before .before .before in
+    (start .pre .0, aside-lent (start .args .planes .now) (start .pre .1) ∙ start .pre .2)
 
 sub-none-marked : tie.Need-sub-none-marked
 sub-none-marked c = search needs
@@ -41,11 +43,12 @@ same-length c = search needs
 
 returns : tie.Need-returns
 returns c =
-    let start = c .before .before .before .before .before .before .before .before .before .before in
+    let set = c .before .before .before .before .before .before in
+    let start = set .before .before .before .before in
     let planes = start .args .planes .now in
     let formed = read-formed (start .pre .0) in
-    let aside = c .before .before .before .before .before .before .set-aside .ensures in
-    let words = c .before .before .before .before .before .before .set-aside .last .1 .1 .0 in
+    let aside = set .set-aside .ensures in
+    let words = set .set-aside .last .1 .1 .0 in
     let size = start .pre .1 in
     let lent : midOf allPlanes planeWords (putMid allPlanes planeWords planes words) ≡ words =
     aside-lent (putMid allPlanes planeWords planes words) (length-put-aside planes size words (aside .size))
@@ -57,9 +60,10 @@ returns c =
 
 judge-counted-requires : tie.Need-judge-counted-requires
 judge-counted-requires c κs =
-    let start = c .before .before .before .before .before .before .before .before .before .before .before in
-    let aside = c .before .before .before .before .before .before .before .set-aside .ensures in
-    (start .pre .0, beside-aside (start .args .planes .now) (start .pre .1) (c .before .before .before .before .before .before .before .set-aside .last .1 .1 .0) (aside .size) aside)
+    let set = c .before .before .before .before .before .before .before in
+    let start = set .before .before .before .before in
+    let aside = set .set-aside .ensures in
+    (start .pre .0, beside-aside (start .args .planes .now) (start .pre .1) (set .set-aside .last .1 .1 .0) (aside .size) aside)
 
 same-length-2 : tie.Need-same-length-2
 same-length-2 c = search needs

@@ -17,6 +17,10 @@ use borrow.Author.Needs.{needs}
 use Rattle.switches.proofs.judge_counted.Statement.{statement}
 use Rattle.switches.proofs.judge_counted.Tie as tie
 
+-- where the nodes are visited
+abbrev start : tie.After-visit-again → tie.Start
+start visited = visited .before .before .before .before .before .before .before .before
+
 sub-clear : tie.Need-sub-clear
 sub-clear c = search needs
 
@@ -56,17 +60,19 @@ clear-leaves-requires c κs = search needs
 
 pass-again-requires : tie.Need-pass-again-requires
 pass-again-requires c κs =
-    let start = c .before .before .before .before .before .before .before .before .before .before .before .before .before .before .before in
-    let table = start .args .table .now in
-    let visited = c .before .before .before .before .before .before .before .visit-again .ensures in
-    let planes = c .before .before .before .before .before .before .before .visit-again .last .1 .1 .0 in
-    let clear = c .before .before .before .clear-leaves .ensures in
-    let words = c .before .before .before .clear-leaves .last .0 in
-    let same = work-put-work planes (visited .0 .size) words (clear .size) in (
+    let cleared-leaves = c .before .before .before in
+    let visited = cleared-leaves .before .before .before .before in
+    let begun = start visited in
+    let table = begun .args .table .now in
+    let (beside, known) = visited .visit-again .ensures in
+    let planes = visited .visit-again .last .1 .1 .0 in
+    let clear = cleared-leaves .clear-leaves .ensures in
+    let words = cleared-leaves .clear-leaves .last .0 in
+    let same = work-put-work planes (beside .size) words (clear .size) in (
       (
-        start .pre .0,
-        beside-work planes (visited .0 .size) words (clear .size) (visited .0),
-        omega (arith, visited .1 .ruled .least, least-high (guardCode table (counted table)) (nodes table)),
+        begun .pre .0,
+        beside-work planes (beside .size) words (clear .size) beside,
+        omega (arith, known .ruled .least, least-high (guardCode table (counted table)) (nodes table)),
       ),
       (rw same (clear .left), rw same (clear .held)),
     )
@@ -82,12 +88,10 @@ part-unflagged-end c = search needs
 
 unflagged-requires : tie.Need-unflagged-requires
 unflagged-requires c κs =
-    let read = c .before .before .before .before .before .before .before .before .before .before .before .before .before .before .before .before .before .before .before .before .pre .0 in
-    let passed = c .before .before .before .before .pass-again .ensures in (
-      well-filled (read .well-formed) (read .headed),
-      passed .1 .size,
-      passed .1 .high,
-    )
+    let passed = c .before .before .before .before in
+    let read = start (passed .before .before .before .before .before .before .before .before) .pre .0 in
+    let leaves = passed .pass-again .ensures .1 in
+    (well-filled (read .well-formed) (read .headed), leaves .size, leaves .high)
 
 verdict-requires : tie.Need-verdict-requires
 verdict-requires c κs = search needs
@@ -97,19 +101,23 @@ same-length c = search needs
 
 returns : tie.Need-returns
 returns c =
-    let read = c .before .before .before .before .before .before .before .before .before .before .before .before .before .before .before .before .before .before .before .before .before .before .pre .0 in
-    let table = c .before .before .before .before .before .before .before .before .before .before .before .before .before .before .before .before .before .before .before .before .before .before .args .table .now in
-    let visited = c .before .before .before .before .before .before .before .before .before .before .before .before .before .before .visit-again .ensures in
-    let planes = c .before .before .before .before .before .before .before .before .before .before .before .before .before .before .visit-again .last .1 .1 .0 in
-    let clear = c .before .before .before .before .before .before .before .before .before .before .clear-leaves .ensures in
-    let words = c .before .before .before .before .before .before .before .before .before .before .clear-leaves .last .0 in
-    let passed = c .before .before .before .before .before .before .pass-again .ensures .1 in
-    let same = work-put-work planes (visited .0 .size) words (clear .size) in
+    let passed = c .before .before .before .before .before .before in
+    let cleared-leaves = passed .before .before .before .before in
+    let visited = cleared-leaves .before .before .before .before in
+    let begun = start visited in
+    let read = begun .pre .0 in
+    let table = begun .args .table .now in
+    let (beside, known) = visited .visit-again .ensures in
+    let planes = visited .visit-again .last .1 .1 .0 in
+    let clear = cleared-leaves .clear-leaves .ensures in
+    let words = cleared-leaves .clear-leaves .last .0 in
+    let leaves = passed .pass-again .ensures .1 in
+    let same = work-put-work planes (beside .size) words (clear .size) in
     let facts : FactsTo table (counted table) (nodes table) (factsPlane (workPlanes (putMid 0 allPlanes planes words))) =
-    rw (same, clear .facts) (visited .1 .ruled .facts) in
+    rw (same, clear .facts) (known .ruled .facts) in
     c .verdict .ensures
-    ∙ judged-verdict (well-filled (read .well-formed) (read .headed)) (counted table) (each-counted table) (rw (passed .facts) facts)
-    (visited .1 .ruled .least) (passed .least facts) (c .before .unflagged .ensures)
+    ∙ judged-verdict (well-filled (read .well-formed) (read .headed)) (counted table) (each-counted table) (rw (leaves .facts) facts)
+    (known .ruled .least) (leaves .least facts) (c .before .unflagged .ensures)
 
 pub judge-counted-spec : {M : Type 1} → statement M
 judge-counted-spec =

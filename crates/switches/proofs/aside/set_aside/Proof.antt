@@ -36,10 +36,11 @@ loop-less c = omega arith
 loop-again : tie.Need-loop-again Inv-loop μ-loop
 loop-again c =
     let turn = c .before .before .before .before .before .loop in
+    let formed = read-formed (c .before .before .before .before .before .before .before .before .pre .0) in
     let last : turn .n ≡ turn .n - 1 + 1 = omega arith in (
       omega (arith, turn .inv .0),
       rw (c .before .before .set-node .ensures)
-          (aside-more _ (read-formed (c .before .before .before .before .before .before .before .before .pre .0)) (turn .n - 1) (turn .aside) (omega (arith, turn .inv .0)) (rw last at (turn .inv .1))),
+          (aside-more _ formed (turn .n - 1) (turn .aside) (omega (arith, turn .inv .0)) (rw last at (turn .inv .1))),
     )
 
 same-length : tie.Need-same-length Inv-loop μ-loop
