@@ -10,7 +10,6 @@ use native.Mathlib.Omega.{arith}
 use lib.Dec.{eqb}
 use lib.ListN.{length, replicate}
 use borrow.Author.Tests.{eq-eqb}
-use borrow.Rule.Slice.PartMut.{midOf}
 use Rattle.leaves.specs.Leaves.{leftPlane, leftCode, PassedTo}
 use Rattle.rules.specs.Acceptance.{ruleOf}
 use Rattle.rules.specs.Judgement.{single, live, counted, holdsLeave, localIf, leftLocally}
@@ -33,14 +32,13 @@ use Rattle.table.specs.Marks.{bitAt, withBit}
 use Rattle.table.proofs.BitLaws.{bit-other, bit-zero}
 use Rattle.visit.specs.Exact.{notedCode, repeatedCode, nodeBest}
 use Rattle.visit.specs.Facts.{Reading, fact, ruleCode, guardCode}
-use Rattle.visit.specs.Fields.{usedPlane, factsPlane, leavesPlane, planeWords, allPlanes}
+use Rattle.visit.specs.Fields.{usedPlane, factsPlane, leavesPlane, allPlanes}
 use Rattle.visit.specs.Least.{none, failure, leastBelow}
 use Rattle.visit.proofs.FactLaws.{plane-more, fact-statement}
 use Rattle.visit.proofs.LeastLaws.{least-more, least-high}
 use Rattle.switches.specs.Again.{Stretch, Beside, VisitedTo}
 use Rattle.switches.specs.Aside.{asidePlane, Aside}
 use Rattle.switches.proofs.AsideLaws.{each-counted}
-use Rattle.switches.proofs.FourLaws.{aside-lent}
 
 -- nothing fails at a node by itself
 pub record Clean (table : List ℕ) (k : ℕ) : Type 0 where
@@ -223,22 +221,17 @@ module _ (table : List ℕ) (formed : Formed table) where
         used = λ k l e. absurd (contrary (bitAt (replicate 8 0) k) e (bit-zero 8 k));
       }
 
--- a stretch in the plane that is lent
+-- what a stretch says of its nodes
 module _ (table : List ℕ) (formed : Formed table) (planes : List ℕ) (beside : Beside table planes) {n end count : ℕ}
-    (all : count ≡ nodes table) (stretch : Stretch (midOf allPlanes planeWords planes) n count end) where
-  abbrev lent : midOf allPlanes planeWords planes ≡ asidePlane planes
-  lent = aside-lent planes (beside .size)
-
+    (all : count ≡ nodes table) (stretch : Stretch (asidePlane planes) n count end) where
   pub stretch-within : end ≤ nodes table
   stretch-within = omega (arith, stretch .to)
 
-  -- its nodes count
+  -- they count
   pub stretch-counts : (k : ℕ) → n ≤ k → k < end → counted table k ≡ statementAt table k
-  stretch-counts k from to =
-      beside .aside .counts k (omega (arith, stretch .to)) (rw lent at (stretch .free k from to))
+  stretch-counts k from to = beside .aside .counts k (omega (arith, stretch .to)) (stretch .free k from to)
 
-  -- where it has none, the first node is set aside
+  -- where there are none, the first node is set aside
   pub stretch-dead : n < nodes table → end ≡ n → (isStatement table n ≡ true) × (live table n ≡ false)
   stretch-dead low none =
-      beside .aside .dead n (omega (arith, formed .nodes-high))
-      (rw (lent, none) at (stretch .stop (omega arith)))
+      beside .aside .dead n (omega (arith, formed .nodes-high)) (rw none at (stretch .stop (omega arith)))

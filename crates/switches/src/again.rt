@@ -7,7 +7,7 @@ ghost use Rattle.process.specs.Given.{Read};
 ghost use Rattle.rules.specs.Judgement.{counted};
 ghost use Rattle.rules.specs.Table.{nodes};
 ghost use Rattle.switches.specs.Again.{Stretch, Beside, VisitedTo, Onward, PassesOn};
-ghost use Rattle.switches.specs.Aside.{workPlanes};
+ghost use Rattle.switches.specs.Aside.{fourPlanes, workPlanes, asidePlane};
 ghost use Rattle.visit.specs.Fields.{leavesPlane, planeWords, allPlanes};
 ghost use Rattle.visit.specs.Least.{none};
 use crate::ASIDE;
@@ -21,13 +21,13 @@ use visit::Visit;
 use visit::least::NONE;
 
 // Where the nodes from n on that count end: at one that is set aside, or behind the last.
-fn stretch_end(aside: &[u32], n: usize, count: usize) -> usize
-    requires { ⌜ (length (now aside) ≡ planeWords) × (n ≤ count) × (count ≤ 256) ⌝ }
-    ensures { λ r. ⌜ Stretch (now (aside .entry)) n count r ⌝ }
+fn stretch_end(planes: &[u32], n: usize, count: usize) -> usize
+    requires { ⌜ (length (now planes) ≡ fourPlanes) × (n ≤ count) × (count ≤ 256) ⌝ }
+    ensures { λ r. ⌜ Stretch (asidePlane (now (planes .entry))) n count r ⌝ }
 {
     let mut end = n;
     while end < count {
-        if marked(aside, end) {
+        if marked(&planes[ASIDE..FOUR_PLANES], end) {
             return end;
         }
         end += 1;
@@ -43,10 +43,11 @@ fn visit_stretch(table: &[u8], header: Header, planes: &mut [u32], from: Reached
         × VisitedTo (now (table .entry)) (r .node) (workPlanes (now (planes .exit))) (r .rule) ⌝ }
 {
     let n = from.node;
-    let end = stretch_end(&planes[ASIDE..FOUR_PLANES], n, header.nodes);
+    let end = stretch_end(planes, n, header.nodes);
     if end == n {
+        let next = n + 1;
         return Reached {
-            node: n + 1,
+            node: next,
             rule: from.rule,
         };
     }
@@ -82,10 +83,11 @@ fn pass_stretch(table: &[u8], header: Header, planes: &mut [u32], from: Reached)
         × PassesOn (now (table .entry)) (workPlanes (now (planes .entry))) (workPlanes (now (planes .exit))) from r ⌝ }
 {
     let n = from.node;
-    let end = stretch_end(&planes[ASIDE..FOUR_PLANES], n, header.nodes);
+    let end = stretch_end(planes, n, header.nodes);
     if end == n {
+        let next = n + 1;
         return Reached {
-            node: n + 1,
+            node: next,
             rule: from.rule,
         };
     }

@@ -1,40 +1,25 @@
 -- `again::pass_stretch` meets its contract: a statement that is set aside is passed by, a stretch of other nodes is passed over.
-use mathlib.Core.Path.{_≡_, _∙_, ap}
 use native.Mathlib.Omega.{arith}
-use lib.ListN.{length}
 use Rattle.process.proofs.ReadLaws.{read-formed, read-built, header-nodes}
 use Rattle.switches.specs.Aside.{workPlanes}
 use Rattle.switches.proofs.AgainLaws.{stretch-within, stretch-counts, stretch-dead, passed-past, counting}
-use Rattle.switches.proofs.FourLaws.{work-length, aside-lent, work-put-work, beside-work}
+use Rattle.switches.proofs.FourLaws.{work-length, work-put-work, beside-work}
 use borrow.Author.Needs.{needs}
 use Rattle.switches.proofs.again.pass_stretch.Statement.{statement}
 use Rattle.switches.proofs.again.pass_stretch.Tie as tie
 
 -- where the next node that is set aside is found
 abbrev start : tie.After-stretch-end → tie.Start
-start found = found .before .before .before .before .before
-
-sub-stretch-end : tie.Need-sub-stretch-end
-sub-stretch-end c = search needs
-
-part-stretch-end-start : tie.Need-part-stretch-end-start
-part-stretch-end-start c = search needs
-
-part-stretch-end-end : tie.Need-part-stretch-end-end
-part-stretch-end-end c = search needs
+start found = found .before .before .before .before
 
 stretch-end-requires : tie.Need-stretch-end-requires
 stretch-end-requires c κs =
-    let begun = c .before .before .before .before in
-    let (read, low, beside, high) = begun .pre in
-    let count = header-nodes read in (
-      ap length (aside-lent (begun .args .planes .now) (beside .size)) ∙ beside .aside .size,
-      omega arith,
-      omega (arith, read-formed read .nodes-high),
-    )
+    let (read, low, beside, high) = c .before .before .before .pre in
+    let count = header-nodes read in
+    (beside .size, omega arith, omega (arith, read-formed read .nodes-high))
 
-add-t13 : tie.Need-add-t13
-add-t13 c =
+add-next : tie.Need-add-next
+add-next c =
     let (read, low, beside, high) = start (c .before) .pre in
     omega (arith, read-formed read .nodes-high)
 
@@ -109,11 +94,8 @@ pub pass-stretch-spec : {M : Type 1} → statement M
 pass-stretch-spec =
     tie.close
     (tie.spec
-    sub-stretch-end
-    part-stretch-end-start
-    part-stretch-end-end
     stretch-end-requires
-    add-t13
+    add-next
     same-length
     returns
     sub-pass-nodes
