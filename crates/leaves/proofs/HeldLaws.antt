@@ -43,33 +43,34 @@ module _ (table : List ℕ) (formed : Formed table) where
     unfolding leftLocally
     left-at n = openly-at table formed (λ k. localIf table (reading k) && holdsLeave table reading k) n
 
-  -- a table without leaves
-  module _ (none : (k : ℕ) → k < nodes table → nodeAt table k .kind ≡ 26 → ⊥) where
-    no-statement : (k : ℕ) → isLeave (statementAt table k) ≡ true → ⊥
-    unfolding statementAt
-    no-statement k leave =
-        elim (decLt k (nodes table)) [
-          | yes l ↦ never (sym leave ∙ no-leave (nodeAt table k) (none k l))
-          | no m ↦ never (sym leave ∙ ap isLeave (statement-past table (formed .sized) k (omega arith)))
-        ]
+  -- a table without leaves, by its kinds
+  pub no-leaves : ((k : ℕ) → k < nodes table → nodeAt table k .kind ≡ 26 → ⊥) → (k : ℕ) → isLeave (statementAt table k) ≡ false
+  unfolding statementAt
+  no-leaves none k =
+      elim (decLt k (nodes table)) [
+        | yes l ↦ no-leave (nodeAt table k) (none k l)
+        | no m ↦ ap isLeave (statement-past table (formed .sized) k (omega arith))
+      ]
 
-    pub none-held : (n : ℕ) → holdsLeave table (statementAt table) n ≡ false
+  -- where no leave counts, nothing holds one, and nothing is left locally
+  module _ (reading : ℕ → Statement) (free : (k : ℕ) → isLeave (reading k) ≡ false) where
+    pub none-held : (n : ℕ) → holdsLeave table reading n ≡ false
     unfolding holdsLeave
     none-held n =
         ⊎-elim
-        (λ (e : holdsLeave table (statementAt table) n ≡ true).
-        absurd (by-open table formed (λ k. isLeave (statementAt table k)) (λ k. ⊥) no-statement (λ k a i h. h) n e))
-        (λ (e : holdsLeave table (statementAt table) n ≡ false). e)
-        (bool-cases (holdsLeave table (statementAt table) n))
+        (λ (e : holdsLeave table reading n ≡ true).
+        absurd (by-open table formed (λ k. isLeave (reading k)) (λ k. ⊥) (λ k h. never (sym h ∙ free k)) (λ k a i h. h) n e))
+        (λ (e : holdsLeave table reading n ≡ false). e)
+        (bool-cases (holdsLeave table reading n))
 
-    pub none-left : (n : ℕ) → leftLocally table (statementAt table) n ≡ false
+    pub none-left : (n : ℕ) → leftLocally table reading n ≡ false
     unfolding leftLocally
     none-left n =
         ⊎-elim
-        (λ (e : leftLocally table (statementAt table) n ≡ true).
+        (λ (e : leftLocally table reading n ≡ true).
         absurd
-        (by-open table formed (λ k. localIf table (statementAt table k) && holdsLeave table (statementAt table) k) (λ k. ⊥)
-        (λ k h. never (sym (both-right (localIf table (statementAt table k)) (holdsLeave table (statementAt table) k) h) ∙ none-held k))
+        (by-open table formed (λ k. localIf table (reading k) && holdsLeave table reading k) (λ k. ⊥)
+        (λ k h. never (sym (both-right (localIf table (reading k)) (holdsLeave table reading k) h) ∙ none-held k))
         (λ k a i h. h) n e))
-        (λ (e : leftLocally table (statementAt table) n ≡ false). e)
-        (bool-cases (leftLocally table (statementAt table) n))
+        (λ (e : leftLocally table reading n ≡ false). e)
+        (bool-cases (leftLocally table reading n))

@@ -30,7 +30,7 @@ use Rattle.visit.proofs.LeastLaws.{least-more}
 use Rattle.visit.proofs.PlaneLaws.{used-length, leaves-length, leaves-lent, used-put-used, facts-put-used, leaves-put-used, length-put-used}
 use Rattle.visit.proofs.PlaneLaws.{used-put-leaves, facts-put-leaves, leaves-put-leaves, length-put-leaves}
 use Rattle.leaves.specs.Leaves.{leftPlane, HeldTo, LeftTo, leftCode, eitherBit, Joined, NodePassed, NodesPassed, Cleared, PassedTo, LeavesPassed}
-use Rattle.leaves.proofs.HeldLaws.{Plain, plain, holds-at, left-at, none-held, none-left}
+use Rattle.leaves.proofs.HeldLaws.{Plain, plain, holds-at, left-at, no-leaves, none-held, none-left}
 
 -- a part lies below the node that names it, and is of its sort
 part : (n a : ℕ) (sort : Bool) → (ltb a n && sort) ≡ true → (a < n) × (sort ≡ true)
@@ -276,21 +276,37 @@ module _ (table : List ℕ) (first start : ℕ) (before : List ℕ) where
             };
       }
 
--- a table without leaves
+-- where no leave counts
 
-module _ (table : List ℕ) (formed : Formed table) (free : (k : ℕ) → k < nodes table → nodeAt table k .kind ≡ 26 → ⊥) where
-  none-ruled : (n : ℕ) → leftCode table (statementAt table) n ≡ none
+module _ (table : List ℕ) (formed : Formed table) (reading : ℕ → Statement) (free : (k : ℕ) → isLeave (reading k) ≡ false) where
+  none-ruled : (n : ℕ) → leftCode table reading n ≡ none
   unfolding leftCode
   none-ruled n =
-      let unleft = none-left table formed free (nodeAt table n .b) in
+      let unleft = none-left table formed reading free (nodeAt table n .b) in
       ⊎-elim (λ (e : eqb (nodeAt table n .kind) 20 ≡ true). simp (e, unleft))
       (λ (e : eqb (nodeAt table n .kind) 20 ≡ false). simp e)
       (bool-cases (eqb (nodeAt table n .kind) 20))
 
-  none-least : (n : ℕ) → leastBelow (leftCode table (statementAt table)) n ≡ none
+  none-least : (n : ℕ) → leastBelow (leftCode table reading) n ≡ none
   unfolding leastBelow
   none-least zero = refl
   none-least (suc n) = omega (arith, none-least n, none-ruled n)
+
+  pub none-passed : (rule : ℕ) → rule ≤ none → (planes : List ℕ) → length planes ≡ allPlanes
+      → ((k : ℕ) → k < 256 → bitAt (leavesPlane planes) k ≡ false) → LeavesPassed table reading rule planes planes rule
+  none-passed rule high planes size clear =
+      record {
+        size = size;
+        facts = refl;
+        held =
+            record {
+              size = leaves-length planes size;
+              known = λ k l. clear k (omega (arith, formed .nodes-high)) ∙ sym (none-held table formed reading free k);
+              clear = λ k h l. clear k l;
+            };
+        least = λ facts. omega (arith, none-least (nodes table));
+        high = high;
+      }
 
 pub none-noted : (table : List ℕ) → Formed table → (rule : ℕ) → rule ≤ none → (planes : List ℕ) → length planes ≡ allPlanes
     → NotedTo table (nodes table) (leavesPlane planes)
@@ -302,18 +318,7 @@ none-noted table formed rule high planes size noted lent =
     λ k l. none-set (leavesPlane planes) all k (omega (arith, noted .size)) in
     let free : (k : ℕ) → k < nodes table → nodeAt table k .kind ≡ 26 → ⊥ =
     λ k l. eqb-false (nodeAt table k .kind) 26 (sym (noted .known k l) ∙ clear k (omega (arith, formed .nodes-high))) in
-    record {
-      size = size;
-      facts = refl;
-      held =
-          record {
-            size = noted .size;
-            known = λ k l. clear k (omega (arith, formed .nodes-high)) ∙ sym (none-held table formed free k);
-            clear = λ k h l. clear k l;
-          };
-      least = λ facts. omega (arith, none-least table formed free (nodes table));
-      high = high;
-    }
+    none-passed table formed (statementAt table) (no-leaves table formed free) rule high planes size clear
 
 -- the two planes, cleared
 module _ (planes left-words held-words : List ℕ) (size : length planes ≡ allPlanes)

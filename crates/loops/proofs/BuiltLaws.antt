@@ -1,17 +1,19 @@
--- What a well-built table with its header says of where its nodes lie.
-use mathlib.Core.Bool.{not}
+-- What a well-built table with its header says of where its nodes lie, and one without leaves of its statements.
+use mathlib.Core.Bool.{false, not}
 use mathlib.Core.List.{List}
 use mathlib.Core.Path.{_≡_, ap}
 use Prim.Native.Nat.{ℕ, _+_, _*_, _≤_, _<_}
+use native.Mathlib.Decide.{decLt}
 use native.Mathlib.Omega.{arith}
 use lib.ListN.{length}
-use Rattle.rules.specs.Table.{nodes, procedures, statementAt}
+use borrow.Author.Tests.{not-true, not-false}
+use Rattle.rules.specs.Table.{nodes, procedures, statementAt, isLeave}
 use Rattle.rules.specs.WellFormed.{loopAround, nearestLoop}
-use Rattle.rules.proofs.ChoiceLaws.{first-le}
-use Rattle.rules.proofs.Formed.{Formed, built}
+use Rattle.rules.proofs.ChoiceLaws.{first-le, all-at}
+use Rattle.rules.proofs.Formed.{Formed, built, statement-past}
 use Rattle.table.specs.Header.{headerOf}
 use Rattle.table.specs.declared.Header.{Header}
-use Rattle.loops.specs.Built.{Built}
+use Rattle.loops.specs.Built.{Built, hasLeave}
 
 module _ {table : List ℕ} {header : Header} (b : Built table header) where
   pub built-formed : Formed table
@@ -35,3 +37,13 @@ module _ {table : List ℕ} {header : Header} (b : Built table header) where
   unfolding nearestLoop
   nearest-few n =
       omega (arith, first-le (λ w. not (loopAround table n (statementAt table w))) (nodes table), built-formed .nodes-high)
+
+-- a table without leaves
+pub no-leave-at : (table : List ℕ) → Formed table → hasLeave table ≡ false → (n : ℕ) → isLeave (statementAt table n) ≡ false
+no-leave-at table f none n =
+    elim (decLt n (nodes table)) [
+      | yes l ↦
+          not-true (isLeave (statementAt table n))
+          (all-at (λ m. not (isLeave (statementAt table m))) (nodes table) (not-false _ none) n l)
+      | no m ↦ rw (statement-past table (f .sized) n (omega arith))
+    ]

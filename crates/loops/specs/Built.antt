@@ -1,11 +1,13 @@
--- What the way up from a node is given, and the parts that it goes by.
-use mathlib.Core.Bool.{Bool, false, cond, _&&_, _||_}
+-- What the way up from a node is given, the parts that it goes by, and whether a table has a leave.
+use mathlib.Core.Bool.{Bool, false, cond, not, _&&_, _||_}
 use mathlib.Core.List.{List}
 use mathlib.Core.Path.{_≡_}
 use Prim.Native.Nat.{ℕ}
 use lib.Dec.{eqb}
 use Rattle.rules.specs.declared.Node.{Node}
 use Rattle.rules.specs.declared.Verdict.the-variants.{Accepted}
+use Rattle.rules.specs.Choice.{allBelow}
+use Rattle.rules.specs.Table.{nodes, statementAt, isLeave}
 use Rattle.rules.specs.WellFormed.{wellBuilt}
 use Rattle.table.specs.Header.{headerOf}
 use Rattle.table.specs.declared.Header.{Header}
@@ -24,3 +26,7 @@ abbrev pub hasPart : Node → ℕ → Bool
 hasPart m n =
     cond (eqb (m .kind) 18) (eqb (m .a) n || eqb (m .b) n)
     (cond (eqb (m .kind) 19) (eqb (m .b) n || eqb (m .c) n) false)
+
+-- whether a node of the table is a leave
+abbrev pub hasLeave : List ℕ → Bool
+hasLeave table = not (allBelow (λ n. not (isLeave (statementAt table n))) (nodes table))

@@ -1,12 +1,14 @@
-// The nearest while (a loop) around a statement: on the way up to its procedure's body, the first while.
+// The nearest while (a loop) around a statement: on the way up to its procedure's body, the first while. And whether there is a leave
+// at all, which is what asks for it.
 ghost use mathlib.Core.Bool.{cond};
 ghost use mathlib.Core.Path.{_≡_};
 ghost use Prim.Native.Nat.{_<_};
 ghost use Rattle.rules.specs.Table.{nodes};
 ghost use Rattle.rules.specs.WellFormed.{nearestLoop};
-ghost use Rattle.loops.specs.Built.{Built, hasBody, hasPart};
+ghost use Rattle.loops.specs.Built.{Built, hasBody, hasPart, hasLeave};
 use rules::Node;
 use table::Header;
+use table::words::kind_at;
 use table::words::node_at;
 
 fn has_body(node: Node, n: usize) -> bool
@@ -52,4 +54,20 @@ pub fn nearest_loop(table: &[u8], header: Header, n: usize) -> usize
         m += 1;
     }
     count
+}
+
+// Whether the table has a leave.
+pub fn has_leave(table: &[u8], header: Header) -> bool
+    requires { ⌜ Built (now table) header ⌝ }
+    ensures { λ r. ⌜ r ≡ hasLeave (now (table .entry)) ⌝ }
+{
+    let nodes = header.nodes;
+    let mut n = 0;
+    while n < nodes {
+        if kind_at(table, header, n) == 26 {
+            return true;
+        }
+        n += 1;
+    }
+    false
 }

@@ -28,6 +28,8 @@ use Rattle.rules.proofs.ArrivalLaws.{each-arrival-length}
 use Rattle.rules.proofs.ChoiceLaws.{bool-cases, first-none, all-true, all-at}
 use Rattle.rules.proofs.CollectiveLaws.{completed-length, completed-at}
 use Rattle.rules.proofs.EntryLaws.{Statements, each-kept, each-popped, statements-fit, statements-advanced}
+use Rattle.loops.specs.Built.{hasLeave}
+use Rattle.loops.proofs.BuiltLaws.{no-leave-at}
 use Rattle.rules.proofs.Formed.{Formed, formed, statement-past}
 use Rattle.rules.proofs.HomeLaws.{stores-low}
 use Rattle.rules.proofs.Meeting.{released-is, released-apart}
@@ -42,7 +44,7 @@ use Rattle.machine.specs.Outcomes.{Ready, Gives}
 use Rattle.machine.proofs.OutcomeLaws.{taken-run}
 use Rattle.machine.proofs.TeamLaws.{ready-stacked, ready-place}
 use Rattle.questions.proofs.FittingLaws.{bounded, stack-fit, record-fit}
-use Rattle.scheduler.specs.Serving.{unfitIn, hasLeave, Fit, MovedOn, LeftBy, Turned}
+use Rattle.scheduler.specs.Serving.{unfitIn, Fit, MovedOn, LeftBy, Turned}
 
 -- question 23 of a process goes by its words and its record
 lacked-same : (roll other : List ℕ) (q : ℕ) → SameRecord other roll q → (k : Collective) → lackedZero other q k ≡ lackedZero roll q k
@@ -76,16 +78,6 @@ running-record table words roll p runs fit =
       value = eqb-true (arrivalValue roll p) 0 (both-right node value front);
       source = eqb-true (arrivalSource roll p) 0 (both-right (node && value) source zero);
     }
-
--- a table without leaves
-no-leave-at : (table : List ℕ) → Formed table → hasLeave table ≡ false → (n : ℕ) → isLeave (statementAt table n) ≡ false
-no-leave-at table f none n =
-    elim (decLt n (nodes table)) [
-      | yes l ↦
-          not-true (isLeave (statementAt table n))
-          (all-at (λ m. not (isLeave (statementAt table m))) (nodes table) (not-false _ none) n l)
-      | no m ↦ rw (statement-past table (f .sized) n (omega arith))
-    ]
 
 -- what is left to ask, by an answer
 abbrev pub LeftOf : Stepped → List ℕ → List ℕ → List ℕ → ℕ → ℕ → Type 0

@@ -31,10 +31,6 @@ nextOf roll count last = cond (someRuns roll last) (nextProcess roll last) count
 abbrev pub unfitIn : List ℕ → List ℕ → List ℕ → ℕ → ℕ
 unfitIn table state roll count = firstFailing (processFits table state roll) count
 
--- whether a node of the table is a leave
-abbrev pub hasLeave : List ℕ → Bool
-hasLeave table = not (allBelow (λ n. not (isLeave (statementAt table n))) (nodes table))
-
 abbrev pub Fit : List ℕ → List ℕ → List ℕ → ℕ → Type 0
 Fit table state roll count = (q : ℕ) → q < count → processFits table state roll q ≡ true
 

@@ -4,13 +4,14 @@ ghost use mathlib.Core.Bool.{true, false};
 ghost use mathlib.Core.Path.{_≡_};
 ghost use Prim.Native.Nat.{_+_, _*_, _%_, _<_};
 ghost use lib.ListN.{length};
+ghost use Rattle.loops.specs.Built.{hasLeave};
 ghost use Rattle.rules.specs.declared.Verdict.the-variants.{Accepted};
 ghost use Rattle.rules.specs.Arrivals.{arrivalSize, running, statusAt};
 ghost use Rattle.rules.specs.Scheduling.{serving, served};
 ghost use Rattle.rules.specs.Step.{teamVerdict, stepTaken};
-ghost use Rattle.process.specs.Given.{Read};
 ghost use Rattle.machine.specs.Outcomes.{Asked, Ready};
-ghost use Rattle.scheduler.specs.Serving.{service, nextOf, unfitIn, hasLeave, Turned, Makes, teamOf, Serves};
+ghost use Rattle.scheduler.specs.Serving.{service, nextOf, unfitIn, Turned, Makes, teamOf, Serves};
+use loops::has_leave;
 use machine::team::asked;
 use machine::turn::run;
 use meeting::arrivals::status_at;
@@ -26,7 +27,6 @@ use rules::layout::ARRIVAL_WORDS;
 use table::Header;
 use table::shape::refused;
 use table::words::header;
-use table::words::kind_at;
 
 // "how many turns were made and which bank was last", and the refusal, if one was added
 pub struct Service {
@@ -65,22 +65,6 @@ fn next_process(roll: &[u32], count: u32, last: u32) -> u32
         passed += 1;
     }
     count
-}
-
-// Whether the table has a leave. Where it has none, a turn leaves nothing to ask of question 23.
-fn has_leave(table: &[u8], header: Header) -> bool
-    requires { ⌜ Read (now table) header ⌝ }
-    ensures { λ r. ⌜ r ≡ hasLeave (now (table .entry)) ⌝ }
-{
-    let nodes = header.nodes;
-    let mut n = 0;
-    while n < nodes {
-        if kind_at(table, header, n) == 26 {
-            return true;
-        }
-        n += 1;
-    }
-    false
 }
 
 // Question 23 after a turn of process p, put to what the turn may have changed.
@@ -157,6 +141,7 @@ fn serve_asked(
     ensures { λ r. ⌜ Serves (serving (now (table .entry)) turns 0 given (teamOf (now (state .entry)) (now (roll .entry))))
         r (now (state .exit)) (now (roll .exit)) ⌝ }
 {
+    // Where the table has no leave, a turn leaves nothing to ask of question 23.
     let leaving = has_leave(table, header);
     let mut made = 0;
     let mut last = given;

@@ -13,7 +13,7 @@ use borrow.Author.Tests.{eq-eqb}
 use Rattle.leaves.specs.Leaves.{leftPlane, leftCode, PassedTo}
 use Rattle.rules.specs.Acceptance.{ruleOf}
 use Rattle.rules.specs.Judgement.{single, live, counted, holdsLeave, localIf, leftLocally}
-use Rattle.rules.specs.Table.{procedures, nodes, body, nodeAt, statementAt, Statement, nothing}
+use Rattle.rules.specs.Table.{procedures, nodes, body, nodeAt, statementAt, isLeave, Statement, nothing}
 use Rattle.rules.specs.WellFormed.{isStatement, kindKnown, unnamedZero, nodeFits, partsAt, joined, uses, occurrences}
 use Rattle.rules.proofs.AnswerLaws.{both-right}
 use Rattle.rules.proofs.ChoiceLaws.{bool-cases}
@@ -220,6 +220,14 @@ module _ (table : List ℕ) (formed : Formed table) where
         ruled = ruled-none table (counted table);
         used = λ k l e. absurd (contrary (bitAt (replicate 8 0) k) e (bit-zero 8 k));
       }
+
+-- where there is no leave none counts
+pub uncounted-leaves : (table : List ℕ) → ((k : ℕ) → isLeave (statementAt table k) ≡ false) → (k : ℕ)
+    → isLeave (counted table k) ≡ false
+uncounted-leaves table free k =
+    ⊎-elim (λ (e : counted table k ≡ statementAt table k). ap isLeave e ∙ free k)
+    (λ (e : counted table k ≡ nothing). ap isLeave e)
+    (each-counted table k)
 
 -- what a stretch says of its nodes
 module _ (table : List ℕ) (formed : Formed table) (planes : List ℕ) (beside : Beside table planes) {n end count : ℕ}

@@ -13,6 +13,7 @@ ghost use Rattle.visit.specs.Least.{none};
 use crate::ASIDE;
 use crate::FOUR_PLANES;
 use leaves::pass_nodes;
+use loops::has_leave;
 use sweep::Reached;
 use sweep::nodes::sweep_quickly;
 use table::Header;
@@ -105,6 +106,9 @@ pub(crate) fn pass_again(table: &[u8], header: Header, planes: &mut [u32], rule:
     ensures { λ r. ⌜ Beside (now (table .entry)) (now (planes .exit))
         × LeavesPassed (now (table .entry)) (counted (now (table .entry))) rule (workPlanes (now (planes .entry))) (workPlanes (now (planes .exit))) r ⌝ }
 {
+    if !has_leave(table, header) {
+        return rule;
+    }
     let count = header.nodes;
     let mut reached = Reached {
         node: 0,

@@ -1,4 +1,5 @@
 -- `scheduler::serve_asked` meets its contract. Between two turns, the call comes to what serving on from there comes to.
+use Rattle.process.proofs.ReadLaws.{read-built}
 use Rattle.scheduler.proofs.NextLaws.{none-runs, some-runs, next-is}
 use Rattle.scheduler.proofs.ServingSteps.{Between, begun, stops-used, stops-idle, stops-23, stops-24, asked-place, ready, goes-on}
 use Rattle.scheduler.specs.Serving.{teamOf}
@@ -46,7 +47,7 @@ rolled : (n : tie.After-next-process Inv-loop μ-loop) → length (head n .befor
 rolled n = head n .before .loop .inv .team .rolled ∙ sym (start (head n) .pre .team .rolled)
 
 has-leave-requires : tie.Need-has-leave-requires Inv-loop μ-loop
-has-leave-requires c κs = c .before .before .before .pre .team .read
+has-leave-requires c κs = read-built (c .before .before .before .pre .team .read)
 
 loop-holds : tie.Need-loop-holds Inv-loop μ-loop
 loop-holds c = begun _ (c .before .before .before .before .pre)

@@ -1,16 +1,15 @@
--- `scheduler::has_leave` meets its contract. The nodes passed are no leaves.
-use Rattle.process.proofs.ReadLaws.{readable}
+-- `has_leave` meets its contract. The nodes passed are no leaves.
+use Rattle.loops.proofs.BuiltLaws.{readable, header-nodes}
 use Rattle.rules.proofs.ChoiceLaws.{Passed, passed-none, passed-more, all-true, all-false}
 use Rattle.rules.proofs.KindLaws.{leave-of, no-leave}
 use Rattle.rules.specs.Table.{nodes, nodeAt, statementAt, isLeave}
-use Rattle.table.specs.Header.{headerOf}
 use native.Mathlib.Omega.{arith}
 use Prim.Native.Nat.{ℕ, _-_, _≤_}
 use mathlib.Core.Bool.{Bool, true, false, not}
 use mathlib.Core.List.{List}
-use mathlib.Core.Path.{_≡_, sym, _∙_, ap}
-use Rattle.scheduler.proofs.has_leave.Statement.{statement}
-use Rattle.scheduler.proofs.has_leave.Tie as tie
+use mathlib.Core.Path.{_≡_, sym, _∙_}
+use Rattle.loops.proofs.has_leave.Statement.{statement}
+use Rattle.loops.proofs.has_leave.Tie as tie
 
 abbrev stays : List ℕ → ℕ → Bool
 stays table n = not (isLeave (statementAt table n))
@@ -25,17 +24,16 @@ loop-holds : tie.Need-loop-holds Inv-loop μ-loop
 loop-holds c = (omega arith, passed-none _)
 
 kind-at-requires : tie.Need-kind-at-requires Inv-loop μ-loop
-unfolding headerOf
 kind-at-requires c κs =
-    let read = c .before .before .before .pre in
-    readable read (omega (arith, c .loop-test .taken, ap (λ h. h .nodes) (read .headed)))
+    let built = c .before .before .before .pre in
+    readable built (omega (arith, c .loop-test .taken, header-nodes built))
 
 returns : tie.Need-returns Inv-loop μ-loop
-unfolding headerOf statementAt
+unfolding statementAt
 returns c =
     let args = c .before .before .before .before .before .args in
     let n = c .before .before .before .loop .n in
-    let count = ap (λ h. h .nodes) (c .before .before .before .before .before .pre .headed) in
+    let count = header-nodes (c .before .before .before .before .before .pre) in
     let found : stays (args .table .now) n ≡ false =
     rw (leave-of (nodeAt (args .table .now) n) (sym (c .before .kind-at .ensures) ∙ c .if1 .taken)) in
     rw (all-false (stays (args .table .now)) (nodes (args .table .now)) n
@@ -57,11 +55,10 @@ loop-again c =
     (omega (arith, c .before .before .loop-test .taken), passed-more (stays table) n (c .before .before .before .loop .inv .1) passes)
 
 returns-2 : tie.Need-returns-2 Inv-loop μ-loop
-unfolding headerOf
 returns-2 c =
     let table = c .before .before .before .args .table .now in
     let end : c .before .loop .n ≡ nodes table =
-    omega (arith, c .loop-test .left, c .before .loop .inv .0, ap (λ h. h .nodes) (c .before .before .before .pre .headed)) in
+    omega (arith, c .loop-test .left, c .before .loop .inv .0, header-nodes (c .before .before .before .pre)) in
     rw (all-true (stays table) (nodes table) (rw end at (c .before .loop .inv .1)))
 
 pub has-leave-spec : {M : Type 1} → statement M
