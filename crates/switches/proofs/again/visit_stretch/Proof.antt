@@ -70,10 +70,10 @@ sweep-quickly-requires c κs =
     let (read, low, beside, so-far) = begun .pre in
     let stretch = found .stretch-end .ensures in (
       well-filled (read .well-formed) (read .headed) .sized,
-      stretch .from,
-      stretch .to,
+      omega (arith, stretch .from, stretch .to),
+      omega (arith, stretch .to),
       work-length (begun .args .planes .now) (beside .size),
-      low-rule found,
+      omega (arith, low-rule found),
     )
 
 same-length-2 : tie.Need-same-length-2

@@ -27,8 +27,8 @@ set-both-requires-2 : tie.Need-set-both-requires-2
 set-both-requires-2 c κs =
     let read = c .before .before in
     let (here, low, size) = start read .pre in
-    let (x, y) = branch-few _ (read-formed here) _ low _ (read .node-at .ensures) (c .before .match .keys2) in
-    (x, y, size)
+    let few = branch-few _ (read-formed here) _ low _ (read .node-at .ensures) (c .before .match .keys2) in
+    (omega (arith, few), omega (arith, few), size)
 
 cast-mark : tie.Need-cast-mark
 cast-mark c = search needs
