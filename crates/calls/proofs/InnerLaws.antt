@@ -9,7 +9,7 @@ use native.Mathlib.Omega.{arith}
 use lib.Dec.{leb, ltb}
 use borrow.Author.Tests.{leb-true, le-leb}
 use Rattle.rules.specs.declared.Node.{Node}
-use Rattle.rules.specs.Table.{variables, nodeAt, statementOf, expressionAt, statementAt}
+use Rattle.rules.specs.Table.{Program, variables, nodeAt, statementOf, expressionAt, statementAt}
 use Rattle.rules.specs.Table.{Expression, constant, variable, ownNumber, processCount, door, slot, operation}
 use Rattle.rules.specs.Table.{Statement, nothing, assign, sequence, branch, loop, call, latch, collective, leave}
 use Rattle.rules.specs.Table.{Collective, barrier, broadcast, exchange}
@@ -42,57 +42,57 @@ inner-part k (latch a b) h = nowhere k h
 inner-part k (collective m) h = nowhere k h
 inner-part k leave h = nowhere k h
 
-pub inner-in : (table : List ℕ) (n k : ℕ) → In k (innerStatements (statementAt table n)) → In k (partsAt table n)
+pub inner-in : (program : Program) (n k : ℕ) → In k (innerStatements (statementAt program n)) → In k (partsAt program n)
 unfolding partsAt
-inner-in table n k h =
-    let part = inner-part k (statementAt table n) h in
-    omega (arith, part, occurrences-append k (expressionParts (expressionAt table n)) (statementParts (statementAt table n)))
+inner-in program n k h =
+    let part = inner-part k (statementAt program n) h in
+    omega (arith, part, occurrences-append k (expressionParts (expressionAt program n)) (statementParts (statementAt program n)))
 
 -- an expression holds no call
-no-caller : (table : List ℕ) (n : ℕ) → isExpression table n ≡ true → mayCall table n ≡ true → ⊥
+no-caller : (program : Program) (n : ℕ) → isExpression program n ≡ true → mayCall program n ≡ true → ⊥
 unfolding isExpression mayCall
-no-caller table n e s =
-    let kind = nodeAt table n .kind in
+no-caller program n e s =
+    let kind = nodeAt program n .kind in
     omega (arith, leb-true kind 12 e, leb-true 18 kind (both-left (leb 18 kind) (leb kind 21) s))
 
 -- and a part that may hold a call is one of them
-module _ (table : List ℕ) (n k : ℕ) (s : mayCall table k ≡ true) where
+module _ (program : Program) (n k : ℕ) (s : mayCall program k ≡ true) where
   abbrev E : ℕ → Bool
-  E = expressionPart table n
+  E = expressionPart program n
 
   abbrev S : ℕ → Bool
-  S = statementPart table n
+  S = statementPart program n
 
-  past : (a : ℕ) (xs : List ℕ) → expressionPart table n a ≡ true → In k (a ∷ xs) → In k xs
+  past : (a : ℕ) (xs : List ℕ) → expressionPart program n a ≡ true → In k (a ∷ xs) → In k xs
   past a xs e h =
       ⊎-elim
-      (λ (same : a ≡ k). absurd (no-caller table k (rw same at (expression-part-sort table n a e)) s))
+      (λ (same : a ≡ k). absurd (no-caller program k (rw same at (expression-part-sort program n a e)) s))
       (λ (rest : In k xs). rest)
       (in-cases k a xs h)
 
-  no-part : (e : Expression) → expressionFits table n e ≡ true → In k (expressionParts e) → In k []
+  no-part : (e : Expression) → expressionFits program n e ≡ true → In k (expressionParts e) → In k []
   unfolding expressionFits expressionParts
   no-part (constant v) fits h = h
   no-part (variable a) fits h = h
   no-part ownNumber fits h = h
   no-part processCount fits h = h
   no-part (door a) fits h = past a [] fits h
-  no-part (slot a r) fits h = past a [] (area-fields table n a r fits .0) h
+  no-part (slot a r) fits h = past a [] (area-fields program n a r fits .0) h
   no-part (operation o a b) fits h =
       past b [] (both-right (E a) (E b) fits) (past a (b ∷ []) (both-left (E a) (E b) fits) h)
 
-  no-meeting : (m : Collective) → collectiveFits table n m ≡ true → In k (collectiveParts m) → In k []
+  no-meeting : (m : Collective) → collectiveFits program n m ≡ true → In k (collectiveParts m) → In k []
   unfolding collectiveFits collectiveParts
   no-meeting barrier fits h = h
   no-meeting (broadcast a b c) fits h =
-      let v = ltb a (variables table) in
+      let v = ltb a (variables program) in
       past c [] (both-right (v && E b) (E c) fits) (past b (c ∷ []) (both-right v (E b) (both-left (v && E b) (E c) fits)) h)
-  no-meeting (exchange a r) fits h = past a [] (area-fields table n a r fits .0) h
+  no-meeting (exchange a r) fits h = past a [] (area-fields program n a r fits .0) h
 
-  part-inner : (m : Statement) → statementFits table n m ≡ true → In k (statementParts m) → In k (innerStatements m)
+  part-inner : (m : Statement) → statementFits program n m ≡ true → In k (statementParts m) → In k (innerStatements m)
   unfolding statementFits statementParts innerStatements
   part-inner nothing fits h = h
-  part-inner (assign a b) fits h = past b [] (both-right (ltb a (variables table)) (E b) fits) h
+  part-inner (assign a b) fits h = past b [] (both-right (ltb a (variables program)) (E b) fits) h
   part-inner (sequence a b) fits h = h
   part-inner (branch a b c) fits h =
       past a (b ∷ c ∷ []) (both-left (E a) (S b) (both-left (E a && S b) (S c) fits)) h
@@ -103,44 +103,44 @@ module _ (table : List ℕ) (n k : ℕ) (s : mayCall table k ≡ true) where
   part-inner (collective m) fits h = no-meeting m fits h
   part-inner leave fits h = h
 
-  pub in-inner : nodeFits table n ≡ true → In k (partsAt table n) → In k (innerStatements (statementAt table n))
+  pub in-inner : nodeFits program n ≡ true → In k (partsAt program n) → In k (innerStatements (statementAt program n))
   unfolding nodeFits partsAt
   in-inner fits h =
-      let left = expressionFits table n (expressionAt table n) in
-      let right = statementFits table n (statementAt table n) in
-      let ours = expressionParts (expressionAt table n) in
-      let rest = statementParts (statementAt table n) in
+      let left = expressionFits program n (expressionAt program n) in
+      let right = statementFits program n (statementAt program n) in
+      let ours = expressionParts (expressionAt program n) in
+      let rest = statementParts (statementAt program n) in
       elim (decLt 0 (occurrences k ours)) [
-        | yes l ↦ nowhere k (no-part (expressionAt table n) (both-left left right fits) l)
+        | yes l ↦ nowhere k (no-part (expressionAt program n) (both-left left right fits) l)
         | no m ↦
-            part-inner (statementAt table n) (both-right left right fits) (omega (arith, occurrences-append k ours rest))
+            part-inner (statementAt program n) (both-right left right fits) (omega (arith, occurrences-append k ours rest))
       ]
 
 -- those of a list that may hold a call
-pub callers-in : (table : List ℕ) (k : ℕ) (u : List ℕ) → In k (callers table u) → In k u
+pub callers-in : (program : Program) (k : ℕ) (u : List ℕ) → In k (callers program u) → In k u
 unfolding callers
-callers-in table k [] h = h
-callers-in table k (x ∷ u) h =
+callers-in program k [] h = h
+callers-in program k (x ∷ u) h =
     ⊎-elim
-    (λ (e : mayCall table x ≡ true).
+    (λ (e : mayCall program x ≡ true).
     ⊎-elim
     (λ (same : x ≡ k). rw same (first-in k u))
-    (λ (rest : In k (callers table u)). one-more k x u (callers-in table k u rest))
-    (in-cases k x (callers table u) (simp e at h)))
-    (λ (e : mayCall table x ≡ false). one-more k x u (callers-in table k u (simp e at h)))
-    (bool-cases (mayCall table x))
+    (λ (rest : In k (callers program u)). one-more k x u (callers-in program k u rest))
+    (in-cases k x (callers program u) (simp e at h)))
+    (λ (e : mayCall program x ≡ false). one-more k x u (callers-in program k u (simp e at h)))
+    (bool-cases (mayCall program x))
 
-pub in-callers : (table : List ℕ) (k : ℕ) (u : List ℕ) → mayCall table k ≡ true → In k u → In k (callers table u)
+pub in-callers : (program : Program) (k : ℕ) (u : List ℕ) → mayCall program k ≡ true → In k u → In k (callers program u)
 unfolding callers
-in-callers table k [] t h = h
-in-callers table k (x ∷ u) t h =
+in-callers program k [] t h = h
+in-callers program k (x ∷ u) t h =
     ⊎-elim
-    (λ (same : x ≡ k). simp (same, t) (first-in k (callers table u)))
+    (λ (same : x ≡ k). simp (same, t) (first-in k (callers program u)))
     (λ (rest : In k u).
     ⊎-elim
-    (λ (e : mayCall table x ≡ true). simp e (one-more k x (callers table u) (in-callers table k u t rest)))
-    (λ (e : mayCall table x ≡ false). simp e (in-callers table k u t rest))
-    (bool-cases (mayCall table x)))
+    (λ (e : mayCall program x ≡ true). simp e (one-more k x (callers program u) (in-callers program k u t rest)))
+    (λ (e : mayCall program x ≡ false). simp e (in-callers program k u t rest))
+    (bool-cases (mayCall program x)))
     (in-cases k x u h)
 
 -- what neither calls nor has inner statements
@@ -156,20 +156,20 @@ module _ (m : Node) (h18 : m .kind ≡ 18 → ⊥) (h19 : m .kind ≡ 19 → ⊥
       (λ e. silent) (λ e. silent) (λ e. silent) (λ e. silent) (λ e. silent) silent
 
 -- a node that holds no call
-module _ (table : List ℕ) (n : ℕ) (none : mayCall table n ≡ false) where
-  outside : (kind : ℕ) → 18 ≤ kind → kind ≤ 21 → nodeAt table n .kind ≡ kind → ⊥
+module _ (program : Program) (n : ℕ) (none : mayCall program n ≡ false) where
+  outside : (kind : ℕ) → 18 ≤ kind → kind ≤ 21 → nodeAt program n .kind ≡ kind → ⊥
   unfolding mayCall
   outside kind low high e =
-      let own = nodeAt table n .kind in
+      let own = nodeAt program n .kind in
       let in-range : (leb 18 own && leb own 21) ≡ true =
       rw e (simp (le-leb 18 kind low, le-leb kind 21 high)) in
       never (sym in-range ∙ none)
 
-  pub no-call : Quiet (statementAt table n)
+  pub no-call : Quiet (statementAt program n)
   unfolding statementAt
   no-call =
-      quiet (nodeAt table n) (outside 18 (omega arith) (omega arith)) (outside 19 (omega arith) (omega arith))
+      quiet (nodeAt program n) (outside 18 (omega arith) (omega arith)) (outside 19 (omega arith) (omega arith))
       (outside 20 (omega arith) (omega arith)) (outside 21 (omega arith) (omega arith))
 
-  pub no-inner : {A : Type 0} (k : ℕ) → In k (innerStatements (statementAt table n)) → A
+  pub no-inner : {A : Type 0} (k : ℕ) → In k (innerStatements (statementAt program n)) → A
   no-inner k h = nowhere k (rw (no-call .0) at h)

@@ -7,7 +7,7 @@ use Prim.Native.Nat.{ℕ, _*_, _≤_, _<_}
 use lib.ListN.{length}
 use borrow.Author.Tests.{lt-ltb, le-ltb}
 use Rattle.rules.specs.declared.Node.{Node}
-use Rattle.rules.specs.Table.{Statement, nodes, nodeAt, statementOf, statementAt}
+use Rattle.rules.specs.Table.{Program, decode, Statement, nodes, nodeAt, statementOf, statementAt}
 use Rattle.rules.proofs.ChoiceLaws.{bool-cases}
 use Rattle.rules.proofs.KindLaws.{sequence-of, branch-of, loop-of, call-of, by-kind}
 use Rattle.table.specs.declared.Header.{Header}
@@ -18,16 +18,16 @@ use Rattle.calls.specs.Walk.{innerStatements, mayCall, callers, waiting,
 use Rattle.calls.proofs.TreeLaws.{In, first-in, one-more, part-in-below}
 use Rattle.calls.proofs.InnerLaws.{inner-in}
 
-pub inner-below : (table : List ℕ) (header : Header) → Fitting table header → (n a : ℕ) → n < nodes table
-    → In a (innerStatements (statementAt table n)) → a < n
-inner-below table header f n a inside h = part-in-below table header f n a inside (inner-in table n a h)
+pub inner-below : (table : List ℕ) (header : Header) → Fitting table header → (n a : ℕ) → n < nodes (decode table)
+    → In a (innerStatements (statementAt (decode table) n)) → a < n
+inner-below table header f n a inside h = part-in-below table header f n a inside (inner-in (decode table) n a h)
 
-module _ (table : List ℕ) (n : ℕ) (m : Node) (read : m ≡ nodeAt table n) where
-  here : {s : Statement} → statementOf m ≡ s → statementAt table n ≡ s
+module _ (table : List ℕ) (n : ℕ) (m : Node) (read : m ≡ nodeAt (decode table) n) where
+  here : {s : Statement} → statementOf m ≡ s → statementAt (decode table) n ≡ s
   unfolding statementAt
   here t = ap statementOf (sym read) ∙ t
 
-  module _ (header : Header) (f : Fitting table header) (inside : n < nodes table) where
+  module _ (header : Header) (f : Fitting table header) (inside : n < nodes (decode table)) where
     fits : {s : Statement} (a : ℕ) → statementOf m ≡ s → In a (innerStatements s) → a < n
     fits a t h = inner-below table header f n a inside (rw (here t) h)
 
@@ -51,36 +51,36 @@ module _ (table : List ℕ) (n : ℕ) (m : Node) (read : m ≡ nodeAt table n) w
 
   -- what waits
 
-  pub waits-sequence : m .kind ≡ 18 → waiting table n ≡ callers table (m .a ∷ m .b ∷ [])
+  pub waits-sequence : m .kind ≡ 18 → waiting (decode table) n ≡ callers (decode table) (m .a ∷ m .b ∷ [])
   unfolding innerStatements
   waits-sequence e = rw (here (sequence-of m e))
 
-  pub waits-branch : m .kind ≡ 19 → waiting table n ≡ callers table (m .b ∷ m .c ∷ [])
+  pub waits-branch : m .kind ≡ 19 → waiting (decode table) n ≡ callers (decode table) (m .b ∷ m .c ∷ [])
   unfolding innerStatements
   waits-branch e = rw (here (branch-of m e))
 
-  pub waits-loop : m .kind ≡ 20 → waiting table n ≡ callers table (m .b ∷ [])
+  pub waits-loop : m .kind ≡ 20 → waiting (decode table) n ≡ callers (decode table) (m .b ∷ [])
   unfolding innerStatements
   waits-loop e = rw (here (loop-of m e))
 
-  pub waits-other : (m .kind ≡ 18 → ⊥) → (m .kind ≡ 19 → ⊥) → (m .kind ≡ 20 → ⊥) → waiting table n ≡ []
+  pub waits-other : (m .kind ≡ 18 → ⊥) → (m .kind ≡ 19 → ⊥) → (m .kind ≡ 20 → ⊥) → waiting (decode table) n ≡ []
   unfolding innerStatements callers
   waits-other h18 h19 h20 =
       rw (here {s = statementOf m} refl)
-      (by-kind (λ s. callers table (innerStatements s) ≡ []) m (λ e. refl) (λ e. absurd (h18 e)) (λ e. absurd (h19 e))
+      (by-kind (λ s. callers (decode table) (innerStatements s) ≡ []) m (λ e. refl) (λ e. absurd (h18 e)) (λ e. absurd (h19 e))
       (λ e. absurd (h20 e)) (λ e. refl) (λ e. refl) (λ e. refl) (λ e. refl) (λ e. refl) (λ e. refl) refl)
 
   -- the lowest call so far
   module _ (p low : ℕ) where
-    pub called-below : m .kind ≡ 21 → m .a < p → low ≡ cond (callsBelow p (statementAt table n)) low n
+    pub called-below : m .kind ≡ 21 → m .a < p → low ≡ cond (callsBelow p (statementAt (decode table) n)) low n
     unfolding callsBelow
     called-below e l = rw (here (call-of m e)) (simp (lt-ltb (m .a) p l))
 
-    pub called-high : m .kind ≡ 21 → p ≤ m .a → n ≡ cond (callsBelow p (statementAt table n)) low n
+    pub called-high : m .kind ≡ 21 → p ≤ m .a → n ≡ cond (callsBelow p (statementAt (decode table) n)) low n
     unfolding callsBelow
     called-high e l = rw (here (call-of m e)) (simp (le-ltb (m .a) p l))
 
-    pub called-none : (m .kind ≡ 21 → ⊥) → low ≡ cond (callsBelow p (statementAt table n)) low n
+    pub called-none : (m .kind ≡ 21 → ⊥) → low ≡ cond (callsBelow p (statementAt (decode table) n)) low n
     unfolding callsBelow
     called-none other =
         rw (here {s = statementOf m} refl)
@@ -88,33 +88,33 @@ module _ (table : List ℕ) (n : ℕ) (m : Node) (read : m ≡ nodeAt table n) w
         (λ e. absurd (other e)) (λ e. refl) (λ e. refl) (λ e. refl) (λ e. refl) (λ e. refl) refl)
 
 -- marks once the statements of a list wait that may hold a call
-module _ (table m : List ℕ) where
-  pub one-waits : (a : ℕ) → mayCall table a ≡ true → withBits m (callers table (a ∷ [])) ≡ withBit m a
+module _ (program : Program) (m : List ℕ) where
+  pub one-waits : (a : ℕ) → mayCall program a ≡ true → withBits m (callers program (a ∷ [])) ≡ withBit m a
   unfolding callers withBits
   one-waits a e = simp e
 
-  pub second-waits : (a b : ℕ) → mayCall table b ≡ true
-      → withBits m (callers table (a ∷ b ∷ [])) ≡ withBit (withBits m (callers table (a ∷ []))) b
+  pub second-waits : (a b : ℕ) → mayCall program b ≡ true
+      → withBits m (callers program (a ∷ b ∷ [])) ≡ withBit (withBits m (callers program (a ∷ []))) b
   unfolding callers withBits
   second-waits a b e =
-      ⊎-elim (λ (f : mayCall table a ≡ true). simp (e, f)) (λ (f : mayCall table a ≡ false). simp (e, f))
-      (bool-cases (mayCall table a))
+      ⊎-elim (λ (f : mayCall program a ≡ true). simp (e, f)) (λ (f : mayCall program a ≡ false). simp (e, f))
+      (bool-cases (mayCall program a))
 
-  pub first-waits : (a b : ℕ) → mayCall table b ≡ false → withBits m (callers table (a ∷ b ∷ [])) ≡ withBits m (callers table (a ∷ []))
+  pub first-waits : (a b : ℕ) → mayCall program b ≡ false → withBits m (callers program (a ∷ b ∷ [])) ≡ withBits m (callers program (a ∷ []))
   unfolding callers withBits
   first-waits a b e =
-      ⊎-elim (λ (f : mayCall table a ≡ true). simp (e, f)) (λ (f : mayCall table a ≡ false). simp (e, f))
-      (bool-cases (mayCall table a))
+      ⊎-elim (λ (f : mayCall program a ≡ true). simp (e, f)) (λ (f : mayCall program a ≡ false). simp (e, f))
+      (bool-cases (mayCall program a))
 
-  pub none-waits : (a : ℕ) → mayCall table a ≡ false → withBits m (callers table (a ∷ [])) ≡ m
+  pub none-waits : (a : ℕ) → mayCall program a ≡ false → withBits m (callers program (a ∷ [])) ≡ m
   unfolding callers withBits
   none-waits a e = simp e
 
   -- a loop's body, which stands for both
-  pub twice-waits : (a : ℕ) → a < 32 * length m → withBits m (callers table (a ∷ a ∷ [])) ≡ withBits m (callers table (a ∷ []))
+  pub twice-waits : (a : ℕ) → a < 32 * length m → withBits m (callers program (a ∷ a ∷ [])) ≡ withBits m (callers program (a ∷ []))
   unfolding callers withBits
   twice-waits a inside =
       ⊎-elim
-      (λ (f : mayCall table a ≡ true). simp f (unfold withBit in simp (bit-same m a inside)))
-      (λ (f : mayCall table a ≡ false). simp f)
-      (bool-cases (mayCall table a))
+      (λ (f : mayCall program a ≡ true). simp f (unfold withBit in simp (bit-same m a inside)))
+      (λ (f : mayCall program a ≡ false). simp f)
+      (bool-cases (mayCall program a))

@@ -10,7 +10,7 @@ use native.Mathlib.Omega.{arith}
 use lib.Dec.{ltb}
 use lib.ListN.{length, replicate}
 use borrow.Author.Tests.{lt-ltb, ltb-true}
-use Rattle.rules.specs.Table.{nodes, statementAt}
+use Rattle.rules.specs.Table.{Program, decode, nodes, statementAt}
 use Rattle.rules.specs.WellFormed.{partsAt, occurrences, inTree}
 use Rattle.rules.proofs.ChoiceLaws.{bool-cases}
 use Rattle.rules.proofs.PartLaws.{tree-self}
@@ -25,33 +25,33 @@ use Rattle.calls.proofs.InnerLaws.{inner-in, in-inner, callers-in, in-c
 use Rattle.calls.proofs.TreeLaws.{In, part-in-below, Parent, tree-up, tree-down}
 
 -- what waits once the nodes from i on are visited, b being the body
-pub record Wait (table : List ℕ) (b i : ℕ) (m : List ℕ) : Type 0 where
+pub record Wait (program : Program) (b i : ℕ) (m : List ℕ) : Type 0 where
   pub size : length m ≡ 8
-  pub sound : (k : ℕ) → k < 256 → bitAt m k ≡ true → (inTree table k b ≡ true) × (k < i)
+  pub sound : (k : ℕ) → k < 256 → bitAt m k ≡ true → (inTree program k b ≡ true) × (k < i)
   pub rooted : b < i → bitAt m b ≡ true
-  pub complete : (j k : ℕ) → i ≤ j → j < nodes table → inTree table j b ≡ true → In k (partsAt table j)
-      → mayCall table k ≡ true → k < i → bitAt m k ≡ true
+  pub complete : (j k : ℕ) → i ≤ j → j < nodes program → inTree program j b ≡ true → In k (partsAt program j)
+      → mayCall program k ≡ true → k < i → bitAt m k ≡ true
 
-module _ (table : List ℕ) (header : Header) (f : Fitting table header) (b : ℕ) (l : b < nodes table) where
-  few : nodes table ≤ 256
+module _ (table : List ℕ) (header : Header) (f : Fitting table header) (b : ℕ) (l : b < nodes (decode table)) where
+  few : nodes (decode table) ≤ 256
   few = f .sized .nodes-high
 
-  pub wait-start : Wait table b (nodes table) (withBit (replicate 8 0) b)
+  pub wait-start : Wait (decode table) b (nodes (decode table)) (withBit (replicate 8 0) b)
   wait-start =
       record {
         size = length-withBit (replicate 8 0) b;
         sound = λ k inside marked.
             elim (ℕ-discrete k b) [
-              | yes same ↦ (rw same (tree-self table b), omega arith)
+              | yes same ↦ (rw same (tree-self (decode table) b), omega arith)
               | no other ↦ never (sym marked ∙ bit-other (replicate 8 0) b k other ∙ bit-zero 8 k)
             ];
         rooted = λ low. bit-same (replicate 8 0) b (omega (arith, few));
         complete = λ j k above inside holds stands s low. absurd (omega arith);
       }
 
-  module _ (n : ℕ) (inside : n < nodes table) (m : List ℕ) (w : Wait table b (n + 1) m) where
+  module _ (n : ℕ) (inside : n < nodes (decode table)) (m : List ℕ) (w : Wait (decode table) b (n + 1) m) where
     -- the nodes of the tree that may hold a call wait before they are visited
-    pub waits : mayCall table n ≡ true → inTree table n b ≡ true → bitAt m n ≡ true
+    pub waits : mayCall (decode table) n ≡ true → inTree (decode table) n b ≡ true → bitAt m n ≡ true
     waits s h =
         ⊎-elim
         (λ (same : n ≡ b). rw same (w .rooted (omega arith)))
@@ -60,7 +60,7 @@ module _ (table : List ℕ) (header : Header) (f : Fitting table header) (b : �
         w .complete (p .node) n (omega arith) (p .inside) (p .holds) (p .stands) s (omega arith))
         (tree-up table header f n b l h)
 
-    pub wait-passed : bitAt m n ≡ false → Wait table b n m
+    pub wait-passed : bitAt m n ≡ false → Wait (decode table) b n m
     wait-passed e =
         record {
           size = w .size;
@@ -76,12 +76,12 @@ module _ (table : List ℕ) (header : Header) (f : Fitting table header) (b : �
                 | yes higher ↦ w .complete j k (omega arith) under holds stands s (omega arith)
                 | no here ↦
                     let same : j ≡ n = omega arith in
-                    let part : In k (partsAt table n) = rw same at stands in
-                    let stood = in-inner table n k s (f .fits n inside) part in
+                    let part : In k (partsAt (decode table) n) = rw same at stands in
+                    let stood = in-inner (decode table) n k s (f .fits n inside) part in
                     ⊎-elim
-                    (λ (t : mayCall table n ≡ true). never (sym (waits t (rw same at holds)) ∙ e))
-                    (λ (t : mayCall table n ≡ false). no-inner table n t k stood)
-                    (bool-cases (mayCall table n))
+                    (λ (t : mayCall (decode table) n ≡ true). never (sym (waits t (rw same at holds)) ∙ e))
+                    (λ (t : mayCall (decode table) n ≡ false). no-inner (decode table) n t k stood)
+                    (bool-cases (mayCall (decode table) n))
               ];
         }
 
@@ -89,7 +89,7 @@ module _ (table : List ℕ) (header : Header) (f : Fitting table header) (b : �
     module _ (after : List ℕ) (size : length after ≡ 8) (marked : bitAt m n ≡ true) (gone : bitAt after n ≡ false)
         (same-else : (k : ℕ) → (k ≡ n → ⊥) → bitAt after k ≡ bitAt m k) where
       abbrev inner : List ℕ
-      inner = waiting table n
+      inner = waiting (decode table) n
 
       abbrev next : List ℕ
       next = withBits after inner
@@ -117,16 +117,16 @@ module _ (table : List ℕ) (header : Header) (f : Fitting table header) (b : �
           inr (ltb-true 0 (occurrences k inner) stands))
           (bool-cases (bitAt after k))
 
-      pub wait-taken : Wait table b n next
+      pub wait-taken : Wait (decode table) b n next
       wait-taken =
-          let held : inTree table n b ≡ true = w .sound n (omega (arith, few)) marked .0 in
+          let held : inTree (decode table) n b ≡ true = w .sound n (omega (arith, few)) marked .0 in
           record {
             size = length-withBits after inner ∙ size;
             sound = λ k low e.
                 ⊎-elim
                 (λ (old : (bitAt m k ≡ true) × (k < n)). (w .sound k low (old .0) .0, old .1))
                 (λ (new : In k inner).
-                let part = inner-in table n k (callers-in table k (innerStatements (statementAt table n)) new) in
+                let part = inner-in (decode table) n k (callers-in (decode table) k (innerStatements (statementAt (decode table) n)) new) in
                 (tree-down table header f n k b l held part, part-in-below table header f n k inside part))
                 (old-or-new k low e);
             rooted = λ low. kept b low (w .rooted (omega arith));
@@ -135,8 +135,8 @@ module _ (table : List ℕ) (header : Header) (f : Fitting table header) (b : �
                   | yes higher ↦ kept k low (w .complete j k (omega arith) under holds stands s (omega arith))
                   | no here ↦
                       let same : j ≡ n = omega arith in
-                      let part : In k (partsAt table n) = rw same at stands in
+                      let part : In k (partsAt (decode table) n) = rw same at stands in
                       grown k (omega (arith, few))
-                      (in-callers table k (innerStatements (statementAt table n)) s (in-inner table n k s (f .fits n inside) part))
+                      (in-callers (decode table) k (innerStatements (statementAt (decode table) n)) s (in-inner (decode table) n k s (f .fits n inside) part))
                 ];
           }

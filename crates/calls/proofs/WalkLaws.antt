@@ -10,7 +10,7 @@ use native.Mathlib.Omega.{arith}
 use lib.ListN.{length, replicate, getD-replicate}
 use lib.Seq.{getD-set-other}
 use Rattle.rules.specs.Choice.{firstFailing}
-use Rattle.rules.specs.Table.{nodes, body, statementAt}
+use Rattle.rules.specs.Table.{Program, decode, nodes, body, statementAt}
 use Rattle.rules.specs.WellFormed.{inTree}
 use Rattle.rules.proofs.ChoiceLaws.{bool-cases}
 use Rattle.table.specs.declared.Header.{Header}
@@ -25,11 +25,11 @@ use Rattle.calls.proofs.VisitLaws.{one-waits, none-waits}
 use Rattle.calls.proofs.WaitLaws.{Wait, wait-start, wait-passed, wait-taken, waits}
 
 -- what a visit of node n leaves and answers
-abbrev leaves : List ℕ → ℕ → List ℕ → List ℕ
-leaves table n m = withBits m (waiting table n)
+abbrev leaves : Program → ℕ → List ℕ → List ℕ
+leaves program n m = withBits m (waiting program n)
 
-abbrev answers : List ℕ → ℕ → ℕ → ℕ → ℕ
-answers table p n low = cond (callsBelow p (statementAt table n)) low n
+abbrev answers : Program → ℕ → ℕ → ℕ → ℕ
+answers program p n low = cond (callsBelow p (statementAt program n)) low n
 
 -- words that hold no node, while nodes of lower words are marked
 pub clear-bit : (m : List ℕ) (k a : ℕ) → a / 32 < k → ClearFrom m k → ClearFrom (withBit m a) k
@@ -41,12 +41,12 @@ clear-bit m k a low clear =
     simp e (λ i above inside. getD-set-other m (a / 32) i _ 0 (λ same. omega arith) ∙ clear i above inside))
     (bool-cases (bitAt m a))
 
-pub waited-clear : (table m : List ℕ) (k a : ℕ) → a / 32 < k → ClearFrom m k → ClearFrom (withBits m (callers table (a ∷ []))) k
-waited-clear table m k a low clear =
+pub waited-clear : (program : Program) (m : List ℕ) (k a : ℕ) → a / 32 < k → ClearFrom m k → ClearFrom (withBits m (callers program (a ∷ []))) k
+waited-clear program m k a low clear =
     ⊎-elim
-    (λ (e : mayCall table a ≡ true). rw (one-waits table m a e) (clear-bit m k a low clear))
-    (λ (e : mayCall table a ≡ false). rw (none-waits table m a e) clear)
-    (bool-cases (mayCall table a))
+    (λ (e : mayCall program a ≡ true). rw (one-waits program m a e) (clear-bit m k a low clear))
+    (λ (e : mayCall program a ≡ false). rw (none-waits program m a e) clear)
+    (bool-cases (mayCall program a))
 
 -- the body alone is taken at once
 root-taken : (b : ℕ) → b < 256 → Topped (withBit (replicate 8 0) b) (replicate 8 0) (suc b)
@@ -59,47 +59,47 @@ root-taken b low =
     (λ i above inside. getD-replicate 8 i 0 0 inside)
 
 -- with the lowest call so far that does not call below p
-abbrev Walked : List ℕ → ℕ → ℕ → List ℕ → ℕ → Type 0
-Walked table p i m low = Wait table (body table p) i m × Found (ownCalls table p) (nodes table) i low
+abbrev Walked : Program → ℕ → ℕ → List ℕ → ℕ → Type 0
+Walked program p i m low = Wait program (body program p) i m × Found (ownCalls program p) (nodes program) i low
 
 -- from one that was taken to the next: what the loop keeps
-pub record Going (table : List ℕ) (p next : ℕ) (m : List ℕ) (low : ℕ) : Type 0 where
+pub record Going (program : Program) (p next : ℕ) (m : List ℕ) (low : ℕ) : Type 0 where
   pub before : List ℕ
-  pub walked : Walked table p next before low
+  pub walked : Walked program p next before low
   pub topped : Topped before m next
-  pub high : next ≤ nodes table
+  pub high : next ≤ nodes program
 
 pub topped-length : {before after : List ℕ} {next : ℕ} → Topped before after next → length after ≡ 8
 topped-length (empty e g) = ap length g
 topped-length (taken n low marked over gone same size clear) = size
 
-module _ (table : List ℕ) (header : Header) (f : Fitting table header) (p : ℕ) (l : body table p < nodes table) where
+module _ (table : List ℕ) (header : Header) (f : Fitting table header) (p : ℕ) (l : body (decode table) p < nodes (decode table)) where
   abbrev root : ℕ
-  root = body table p
+  root = body (decode table) p
 
-  own-passed : (n : ℕ) → n < nodes table → (m : List ℕ) → Wait table root (n + 1) m → bitAt m n ≡ false
-      → ownCalls table p n ≡ true
+  own-passed : (n : ℕ) → n < nodes (decode table) → (m : List ℕ) → Wait (decode table) root (n + 1) m → bitAt m n ≡ false
+      → ownCalls (decode table) p n ≡ true
   unfolding ownCalls
   own-passed n inside m w e =
       ⊎-elim
-      (λ (h : inTree table n root ≡ true).
+      (λ (h : inTree (decode table) n root ≡ true).
       ⊎-elim
-      (λ (s : mayCall table n ≡ true). never (sym (waits table header f root l n inside m w s h) ∙ e))
-      (λ (s : mayCall table n ≡ false). simp (no-call table n s .1 p, or-true))
-      (bool-cases (mayCall table n)))
-      (λ (h : inTree table n root ≡ false). simp h)
-      (bool-cases (inTree table n root))
+      (λ (s : mayCall (decode table) n ≡ true). never (sym (waits table header f root l n inside m w s h) ∙ e))
+      (λ (s : mayCall (decode table) n ≡ false). simp (no-call (decode table) n s .1 p, or-true))
+      (bool-cases (mayCall (decode table) n)))
+      (λ (h : inTree (decode table) n root ≡ false). simp h)
+      (bool-cases (inTree (decode table) n root))
 
-  walked-passed : (n : ℕ) → n < nodes table → (m : List ℕ) (low : ℕ) → Walked table p (n + 1) m low → bitAt m n ≡ false
-      → Walked table p n m low
+  walked-passed : (n : ℕ) → n < nodes (decode table) → (m : List ℕ) (low : ℕ) → Walked (decode table) p (n + 1) m low → bitAt m n ≡ false
+      → Walked (decode table) p n m low
   walked-passed n inside m low w e = (
     wait-passed table header f root l n inside m (w .0) e,
-    found-passed (ownCalls table p) (nodes table) n low inside (w .1) (own-passed n inside m (w .0) e),
+    found-passed (ownCalls (decode table) p) (nodes (decode table)) n low inside (w .1) (own-passed n inside m (w .0) e),
   )
 
   -- down to the next that waits
-  walked-jump : (d n : ℕ) (m : List ℕ) (low : ℕ) → n + d ≤ nodes table → Walked table p (n + d) m low
-      → ((k : ℕ) → n ≤ k → k < n + d → bitAt m k ≡ false) → Walked table p n m low
+  walked-jump : (d n : ℕ) (m : List ℕ) (low : ℕ) → n + d ≤ nodes (decode table) → Walked (decode table) p (n + d) m low
+      → ((k : ℕ) → n ≤ k → k < n + d → bitAt m k ≡ false) → Walked (decode table) p n m low
   walked-jump zero n m low under w none = rw (add-zero n) at w
   walked-jump (suc d) n m low under w none =
       let here : n + suc d ≡ (n + d) + 1 = omega arith in
@@ -107,32 +107,32 @@ module _ (table : List ℕ) (header : Header) (f : Fitting table header) (p : �
       (walked-passed (n + d) (omega arith) m low (rw here at w) (none (n + d) (omega arith) (omega arith)))
       (λ k above below. none k above (omega arith))
 
-  own-below : (n : ℕ) → callsBelow p (statementAt table n) ≡ true → ownCalls table p n ≡ true
+  own-below : (n : ℕ) → callsBelow p (statementAt (decode table) n) ≡ true → ownCalls (decode table) p n ≡ true
   unfolding ownCalls
   own-below n e = simp (e, or-true)
 
-  own-high : (n : ℕ) → inTree table n root ≡ true → callsBelow p (statementAt table n) ≡ false → ownCalls table p n ≡ false
+  own-high : (n : ℕ) → inTree (decode table) n root ≡ true → callsBelow p (statementAt (decode table) n) ≡ false → ownCalls (decode table) p n ≡ false
   unfolding ownCalls
   own-high n h e = simp (h, e)
 
   -- a node that was taken
-  walked-taken : (n : ℕ) → n < nodes table → (m : List ℕ) (low : ℕ) → Walked table p (n + 1) m low → (after : List ℕ)
+  walked-taken : (n : ℕ) → n < nodes (decode table) → (m : List ℕ) (low : ℕ) → Walked (decode table) p (n + 1) m low → (after : List ℕ)
       → length after ≡ 8 → bitAt m n ≡ true → bitAt after n ≡ false
       → ((k : ℕ) → (k ≡ n → ⊥) → bitAt after k ≡ bitAt m k)
-      → Walked table p n (leaves table n after) (answers table p n low)
+      → Walked (decode table) p n (leaves (decode table) n after) (answers (decode table) p n low)
   walked-taken n inside m low w after size marked gone same = (
     wait-taken table header f root l n inside m (w .0) after size marked gone same,
     ⊎-elim
-        (λ (e : callsBelow p (statementAt table n) ≡ true).
-        simp e (found-passed (ownCalls table p) (nodes table) n low inside (w .1) (own-below n e)))
-        (λ (e : callsBelow p (statementAt table n) ≡ false).
-        simp e (found-here (ownCalls table p) (nodes table) n low inside (w .1)
+        (λ (e : callsBelow p (statementAt (decode table) n) ≡ true).
+        simp e (found-passed (ownCalls (decode table) p) (nodes (decode table)) n low inside (w .1) (own-below n e)))
+        (λ (e : callsBelow p (statementAt (decode table) n) ≡ false).
+        simp e (found-here (ownCalls (decode table) p) (nodes (decode table)) n low inside (w .1)
         (own-high n (w .0 .sound n (omega (arith, f .sized .nodes-high)) marked .0) e)))
-        (bool-cases (callsBelow p (statementAt table n))),
+        (bool-cases (callsBelow p (statementAt (decode table) n))),
   )
 
-  walked-start : Walked table p (nodes table) (withBit (replicate 8 0) root) (nodes table)
-  walked-start = (wait-start table header f root l, found-none (ownCalls table p) (nodes table))
+  walked-start : Walked (decode table) p (nodes (decode table)) (withBit (replicate 8 0) root) (nodes (decode table))
+  walked-start = (wait-start table header f root l, found-none (ownCalls (decode table) p) (nodes (decode table)))
 
   topped-below : {before after : List ℕ} {next : ℕ} → Topped before after next → (k : ℕ) → next ≤ k → k < 256
       → bitAt before k ≡ false
@@ -144,8 +144,8 @@ module _ (table : List ℕ) (header : Header) (f : Fitting table header) (p : �
   topped-high i (empty e g) h = omega arith
   topped-high i (taken n low marked over gone same size clear) h = omega (arith, h n low marked)
 
-  going : (i : ℕ) (m : List ℕ) (low : ℕ) → i ≤ nodes table → Walked table p i m low → (after : List ℕ) (next : ℕ)
-      → Topped m after next → (Going table p next after low) × (next ≤ i)
+  going : (i : ℕ) (m : List ℕ) (low : ℕ) → i ≤ nodes (decode table) → Walked (decode table) p i m low → (after : List ℕ) (next : ℕ)
+      → Topped m after next → (Going (decode table) p next after low) × (next ≤ i)
   going i m low under w after next t =
       let high : next ≤ i = topped-high i t (λ k low e. w .0 .sound k low e .1) in
       let gap : next + (i - next) ≡ i = omega arith in (
@@ -159,15 +159,15 @@ module _ (table : List ℕ) (header : Header) (f : Fitting table header) (p : �
         high,
       )
 
-  pub going-start : (m : List ℕ) (r count : ℕ) → m ≡ replicate 8 0 → r ≡ root → count ≡ nodes table
-      → Going table p (r + 1) m count
+  pub going-start : (m : List ℕ) (r count : ℕ) → m ≡ replicate 8 0 → r ≡ root → count ≡ nodes (decode table)
+      → Going (decode table) p (r + 1) m count
   going-start m r count none at-root counted =
       let t = root-taken root (omega (arith, f .sized .nodes-high)) in
       rw (none, at-root, counted, add-one root)
-      (going (nodes table) (withBit (replicate 8 0) root) (nodes table) (omega arith) walked-start _ _ t .0)
+      (going (nodes (decode table)) (withBit (replicate 8 0) root) (nodes (decode table)) (omega arith) walked-start _ _ t .0)
 
-  visited : (next low : ℕ) (before m : List ℕ) → Topped before m next → next ≤ nodes table → 0 < next
-      → Walked table p next before low → Walked table p (next - 1) (leaves table (next - 1) m) (answers table p (next - 1) low)
+  visited : (next low : ℕ) (before m : List ℕ) → Topped before m next → next ≤ nodes (decode table) → 0 < next
+      → Walked (decode table) p next before low → Walked (decode table) p (next - 1) (leaves (decode table) (next - 1) m) (answers (decode table) p (next - 1) low)
   visited next low before m (empty e g) high pos w = absurd (omega arith)
   visited next low before m (taken n low′ marked over gone same size clear) high pos w =
       let e : suc n - 1 ≡ n = omega arith in
@@ -179,24 +179,24 @@ module _ (table : List ℕ) (header : Header) (f : Fitting table header) (p : �
   topped-clear next earlier m (taken n low marked over gone same size clear) pos =
       let e : suc n - 1 ≡ n = omega arith in rw e clear
 
-  module _ (next low : ℕ) (m : List ℕ) (g : Going table p next m low) (pos : 0 < next) where
+  module _ (next low : ℕ) (m : List ℕ) (g : Going (decode table) p next m low) (pos : 0 < next) where
     -- the next to be taken lies in no higher word
     pub going-clear : ClearFrom m ((next - 1) / 32 + 1)
     going-clear = topped-clear next (g .before) m (g .topped) pos
 
-    pub going-next : (low′ next′ : ℕ) (after : List ℕ) → low′ ≡ answers table p (next - 1) low
-        → Topped (leaves table (next - 1) m) after next′
-        → (Going table p next′ after low′) × (next′ ≤ next - 1)
+    pub going-next : (low′ next′ : ℕ) (after : List ℕ) → low′ ≡ answers (decode table) p (next - 1) low
+        → Topped (leaves (decode table) (next - 1) m) after next′
+        → (Going (decode table) p next′ after low′) × (next′ ≤ next - 1)
     going-next low′ next′ after answer t =
         let w = visited next low (g .before) m (g .topped) (g .high) pos (g .walked) in
         rw answer
-        (going (next - 1) (leaves table (next - 1) m) (answers table p (next - 1) low) (omega (arith, g .high)) w after next′ t)
+        (going (next - 1) (leaves (decode table) (next - 1) m) (answers (decode table) p (next - 1) low) (omega (arith, g .high)) w after next′ t)
 
 emptied : (before m : List ℕ) (next : ℕ) → next ≡ 0 → Topped before m next → m ≡ replicate 8 0
 emptied before m next e (empty was is) = is
 emptied before m next e (taken n low marked over gone same size clear) = absurd (omega arith)
 
-pub going-end : (table : List ℕ) (p next : ℕ) (m : List ℕ) (low : ℕ) → Going table p next m low → next ≡ 0
-    → (low ≡ firstFailing (ownCalls table p) (nodes table)) × (m ≡ replicate 8 0)
-going-end table p next m low g e =
-    (found-first (ownCalls table p) (nodes table) low (rw e at (g .walked .1)), emptied (g .before) m next e (g .topped))
+pub going-end : (program : Program) (p next : ℕ) (m : List ℕ) (low : ℕ) → Going program p next m low → next ≡ 0
+    → (low ≡ firstFailing (ownCalls program p) (nodes program)) × (m ≡ replicate 8 0)
+going-end program p next m low g e =
+    (found-first (ownCalls program p) (nodes program) low (rw e at (g .walked .1)), emptied (g .before) m next e (g .topped))

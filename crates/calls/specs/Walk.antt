@@ -5,7 +5,7 @@ use mathlib.Core.Path.{_≡_}
 use Prim.Native.Nat.{ℕ, suc, _+_, _/_, _≤_, _<_}
 use lib.Dec.{leb, ltb}
 use lib.ListN.{length, getD, replicate}
-use Rattle.rules.specs.Table.{Statement, nothing, assign, sequence, branch, loop, call, latch, collective, leave}
+use Rattle.rules.specs.Table.{Program, Statement, nothing, assign, sequence, branch, loop, call, latch, collective, leave}
 use Rattle.rules.specs.Table.{body, nodeAt, statementAt}
 use Rattle.rules.specs.WellFormed.{inTree}
 use Rattle.table.specs.Marks.{bitAt}
@@ -23,17 +23,17 @@ innerStatements (collective k) = []
 innerStatements leave = []
 
 -- a node may hold a call: it is a sequence, a branch, a loop or a call
-unfoldable pub mayCall : List ℕ → ℕ → Bool
-mayCall table n = leb 18 (nodeAt table n .kind) && leb (nodeAt table n .kind) 21
+unfoldable pub mayCall : Program → ℕ → Bool
+mayCall program n = leb 18 (nodeAt program n .kind) && leb (nodeAt program n .kind) 21
 
 -- those of a list that may hold a call
-unfoldable pub callers : List ℕ → List ℕ → List ℕ
-callers table [] = []
-callers table (n ∷ nodes) = cond (mayCall table n) (n ∷ callers table nodes) (callers table nodes)
+unfoldable pub callers : Program → List ℕ → List ℕ
+callers program [] = []
+callers program (n ∷ nodes) = cond (mayCall program n) (n ∷ callers program nodes) (callers program nodes)
 
 -- what waits once node n is visited
-abbrev pub waiting : List ℕ → ℕ → List ℕ
-waiting table n = callers table (innerStatements (statementAt table n))
+abbrev pub waiting : Program → ℕ → List ℕ
+waiting program n = callers program (innerStatements (statementAt program n))
 
 -- a statement is no call, or calls a procedure below p
 unfoldable pub callsBelow : ℕ → Statement → Bool
@@ -48,8 +48,8 @@ callsBelow p (collective k) = true
 callsBelow p leave = true
 
 -- question 12 of node n as far as procedure p goes
-unfoldable pub ownCalls : List ℕ → ℕ → ℕ → Bool
-ownCalls table p n = not (inTree table n (body table p)) || callsBelow p (statementAt table n)
+unfoldable pub ownCalls : Program → ℕ → ℕ → Bool
+ownCalls program p n = not (inTree program n (body program p)) || callsBelow p (statementAt program n)
 
 -- the words from k on hold no node
 abbrev pub ClearFrom : List ℕ → ℕ → Type 0

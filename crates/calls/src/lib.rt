@@ -6,7 +6,7 @@ ghost use mathlib.Core.Path.{_≡_};
 ghost use Prim.Native.Nat.{_+_, _/_, _<_, _≤_, _^_, min};
 ghost use lib.ListN.{length, replicate};
 ghost use Rattle.rules.specs.Choice.{firstFailing};
-ghost use Rattle.rules.specs.Table.{nodes, statementAt};
+ghost use Rattle.rules.specs.Table.{decode, nodes, statementAt};
 ghost use Rattle.rules.specs.WellFormed.{calledBelow};
 ghost use Rattle.calls.specs.Walk.{mayCall, callers, waiting, callsBelow, ownCalls, ClearFrom, Topped};
 ghost use Rattle.table.specs.Marks.{withBit, withBits};
@@ -55,7 +55,7 @@ fn highest(marks: &mut [u32], n: usize) -> usize
 // Whether node n may hold a call: it is a sequence, a branch, a loop or a call.
 fn may_call(table: &[u8], header: Header, n: usize) -> bool
     requires { ⌜ Fitting (now table) header × (n < header .nodes) ⌝ }
-    ensures { λ r. ⌜ r ≡ mayCall (now (table .entry)) n ⌝ }
+    ensures { λ r. ⌜ r ≡ mayCall (decode (now (table .entry))) n ⌝ }
 {
     let kind = kind_at(table, header, n);
     if kind < 18 {
@@ -67,7 +67,7 @@ fn may_call(table: &[u8], header: Header, n: usize) -> bool
 // Node n waits from now on if it may hold a call.
 fn wait(table: &[u8], header: Header, marks: &mut [u32], n: usize)
     requires { ⌜ Fitting (now table) header × (n < header .nodes) × (length (now marks) ≡ 8) ⌝ }
-    ensures { λ r. ⌜ now (marks .exit) ≡ withBits (now (marks .entry)) (callers (now (table .entry)) (n ∷ [])) ⌝ }
+    ensures { λ r. ⌜ now (marks .exit) ≡ withBits (now (marks .entry)) (callers (decode (now (table .entry))) (n ∷ [])) ⌝ }
 {
     if may_call(table, header, n) {
         mark(marks, n);
@@ -99,7 +99,7 @@ fn on_to_either(
     b: usize,
 ) -> usize
     requires { ⌜ Fitting (now table) header × (n < header .nodes) × (a < n) × (b < n) × (length (now marks) ≡ 8) × ClearFrom (now marks) (n / 32 + 1) ⌝ }
-    ensures { λ r. ⌜ Topped (withBits (now (marks .entry)) (callers (now (table .entry)) (a ∷ b ∷ []))) (now (marks .exit)) r ⌝ }
+    ensures { λ r. ⌜ Topped (withBits (now (marks .entry)) (callers (decode (now (table .entry))) (a ∷ b ∷ []))) (now (marks .exit)) r ⌝ }
 {
     if may_call(table, header, b) {
         wait(table, header, marks, a);
@@ -115,7 +115,7 @@ fn on_to_either(
 // loop stands for both.
 fn descend(table: &[u8], header: Header, marks: &mut [u32], n: usize) -> usize
     requires { ⌜ Fitting (now table) header × (n < header .nodes) × (length (now marks) ≡ 8) × ClearFrom (now marks) (n / 32 + 1) ⌝ }
-    ensures { λ r. ⌜ Topped (withBits (now (marks .entry)) (waiting (now (table .entry)) n)) (now (marks .exit)) r ⌝ }
+    ensures { λ r. ⌜ Topped (withBits (now (marks .entry)) (waiting (decode (now (table .entry))) n)) (now (marks .exit)) r ⌝ }
 {
     let node = node_at(table, header, n);
     let kind = node.kind;
@@ -130,7 +130,7 @@ fn descend(table: &[u8], header: Header, marks: &mut [u32], n: usize) -> usize
 // The lowest call so far that does not call below p, once node n is visited.
 fn lowest_call(table: &[u8], header: Header, p: usize, n: usize, lowest: usize) -> usize
     requires { ⌜ Fitting (now table) header × (n < header .nodes) ⌝ }
-    ensures { λ r. ⌜ r ≡ cond (callsBelow p (statementAt (now (table .entry)) n)) lowest n ⌝ }
+    ensures { λ r. ⌜ r ≡ cond (callsBelow p (statementAt (decode (now (table .entry))) n)) lowest n ⌝ }
 {
     let node = node_at(table, header, n);
     if node.kind != 21 {
@@ -142,7 +142,7 @@ fn lowest_call(table: &[u8], header: Header, p: usize, n: usize, lowest: usize) 
 // The first call in procedure p's tree that does not call below p.
 fn first_high_call(table: &[u8], header: Header, marks: &mut [u32], p: usize) -> usize
     requires { ⌜ Fitting (now table) header × (p < header .procedures) × (now marks ≡ replicate 8 0) ⌝ }
-    ensures { λ r. ⌜ r ≡ firstFailing (ownCalls (now (table .entry)) p) (nodes (now (table .entry))) ⌝ }
+    ensures { λ r. ⌜ r ≡ firstFailing (ownCalls (decode (now (table .entry))) p) (nodes (decode (now (table .entry)))) ⌝ }
     ensures { λ r. ⌜ now (marks .exit) ≡ replicate 8 0 ⌝ }
 {
     let mut lowest = header.nodes;
@@ -164,8 +164,8 @@ fn smaller(a: usize, b: usize) -> usize
 // The first call that does not call below its own procedure.
 pub fn first_miscalled(table: &[u8], header: Header, marks: &mut [u32]) -> usize
     requires { ⌜ Fitting (now table) header × (now marks ≡ replicate 8 0) ⌝ }
-    ensures { λ r. ⌜ r ≡ firstFailing (λ n. calledBelow (now (table .entry)) n (statementAt (now (table .entry)) n))
-        (nodes (now (table .entry))) ⌝ }
+    ensures { λ r. ⌜ r ≡ firstFailing (λ n. calledBelow (decode (now (table .entry))) n (statementAt (decode (now (table .entry))) n))
+        (nodes (decode (now (table .entry)))) ⌝ }
     ensures { λ r. ⌜ now (marks .exit) ≡ replicate 8 0 ⌝ }
 {
     let count = header.procedures;

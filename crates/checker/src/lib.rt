@@ -4,6 +4,7 @@ ghost use lib.ListN.{length};
 ghost use Rattle.rules.specs.Acceptance.{scratchWords, judged, checked, checkedScratch};
 ghost use Rattle.rules.specs.Answers.{_then_};
 ghost use Rattle.rules.specs.WellFormed.{wellFormed};
+ghost use Rattle.rules.specs.Table.{decode};
 use rules::Verdict;
 use rules::layout::SCRATCH_WORDS;
 use switches::answer;
@@ -13,7 +14,7 @@ use table::shape::refused;
 // Questions 2 to 12, 26 and 13 to 17. The words, which may hold anything before, are the planes.
 fn answer_in(table: &[u8], planes: &mut [u32]) -> Verdict
     requires { ⌜ length (now planes) ≡ scratchWords ⌝ }
-    ensures { λ r. ⌜ r ≡ (wellFormed (now (table .entry)) then judged (now (table .entry))) ⌝ }
+    ensures { λ r. ⌜ r ≡ (wellFormed (now (table .entry)) then judged (decode (now (table .entry)))) ⌝ }
 {
     clear(planes);
     answer(table, planes)

@@ -9,7 +9,7 @@ use lib.Dec.{ltb}
 use borrow.Author.Tests.{not-true, lt-ltb}
 use Rattle.rules.specs.Choice.{firstFailing, allBelow}
 use Rattle.rules.specs.Judgement.{holdsLeave}
-use Rattle.rules.specs.Table.{procedures, nodes, body, nodeAt, statementAt}
+use Rattle.rules.specs.Table.{Program, procedures, nodes, body, nodeAt, statementAt}
 use Rattle.rules.specs.WellFormed.{nearestLoop, leaveEnclosed}
 use Rattle.rules.proofs.ChoiceLaws.{first-none, all-at}
 use Rattle.rules.proofs.Formed.{Formed}
@@ -18,32 +18,32 @@ use Rattle.rules.proofs.LeaveLaws.{bodies-enclosed}
 use Rattle.table.specs.Marks.{bitAt}
 use Rattle.leaves.specs.Leaves.{HeldTo}
 
-module _ (table : List ℕ) (n : ℕ) where
-  pub enclosed-other : (nodeAt table n .kind ≡ 26 → ⊥) → true ≡ leaveEnclosed table n
+module _ (program : Program) (n : ℕ) where
+  pub enclosed-other : (nodeAt program n .kind ≡ 26 → ⊥) → true ≡ leaveEnclosed program n
   unfolding leaveEnclosed statementAt
-  enclosed-other other = simp (no-leave (nodeAt table n) other)
+  enclosed-other other = simp (no-leave (nodeAt program n) other)
 
-  pub enclosed-leave : nodeAt table n .kind ≡ 26 → ltb (nearestLoop table n) (nodes table) ≡ leaveEnclosed table n
+  pub enclosed-leave : nodeAt program n .kind ≡ 26 → ltb (nearestLoop program n) (nodes program) ≡ leaveEnclosed program n
   unfolding leaveEnclosed statementAt
-  enclosed-leave e = rw (leave-of (nodeAt table n) e)
+  enclosed-leave e = rw (leave-of (nodeAt program n) e)
 
 -- no body holds a leave that stands in no while
-pub none-loose : (table leaves : List ℕ) → Formed table → HeldTo table (statementAt table) (nodes table) leaves
-    → allBelow (λ p. not (bitAt leaves (body table p % 256))) (procedures table) ≡ true
-    → nodes table ≡ firstFailing (leaveEnclosed table) (nodes table)
+pub none-loose : (program : Program) (leaves : List ℕ) → Formed program → HeldTo program (statementAt program) (nodes program) leaves
+    → allBelow (λ p. not (bitAt leaves (body program p % 256))) (procedures program) ≡ true
+    → nodes program ≡ firstFailing (leaveEnclosed program) (nodes program)
 unfolding statementAt
-none-loose table leaves formed held shut =
-    let closed : (p : ℕ) → p < procedures table → holdsLeave table (statementAt table) (body table p) ≡ false =
+none-loose program leaves formed held shut =
+    let closed : (p : ℕ) → p < procedures program → holdsLeave program (statementAt program) (body program p) ≡ false =
     λ p l.
-    let own : body table p % 256 ≡ body table p = omega (arith, formed .body-below p l, formed .nodes-high) in
-    sym (held .known (body table p) (formed .body-below p l))
-    ∙ not-true _ (rw own at (all-at (λ q. not (bitAt leaves (body table q % 256))) (procedures table) shut p l)) in
+    let own : body program p % 256 ≡ body program p = omega (arith, formed .body-below p l, formed .nodes-high) in
+    sym (held .known (body program p) (formed .body-below p l))
+    ∙ not-true _ (rw own at (all-at (λ q. not (bitAt leaves (body program q % 256))) (procedures program) shut p l)) in
     sym
-    (first-none (leaveEnclosed table) (nodes table)
+    (first-none (leaveEnclosed program) (nodes program)
     (λ n l.
-    elim (ℕ-discrete (nodeAt table n .kind) 26) [
+    elim (ℕ-discrete (nodeAt program n .kind) 26) [
       | yes e ↦
-          let near = bodies-enclosed table formed closed n (leave-of (nodeAt table n) e) in
-          sym (enclosed-leave table n e) ∙ lt-ltb (nearestLoop table n) (nodes table) near
-      | no other ↦ sym (enclosed-other table n other)
+          let near = bodies-enclosed program formed closed n (leave-of (nodeAt program n) e) in
+          sym (enclosed-leave program n e) ∙ lt-ltb (nearestLoop program n) (nodes program) near
+      | no other ↦ sym (enclosed-other program n other)
     ]))

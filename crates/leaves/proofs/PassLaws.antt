@@ -12,7 +12,7 @@ use borrow.Author.Tests.{ltb-true, eqb-true, eqb-false, ne-eqb}
 use Rattle.rules.specs.declared.Node.{Node}
 use Rattle.rules.specs.Choice.{allBelow}
 use Rattle.rules.specs.Judgement.{single, effectOf, effect, holdsLeave, localIf, leftLocally}
-use Rattle.rules.specs.Table.{nodes, nodeAt, statementAt, isLeave, Statement, nothing, loop}
+use Rattle.rules.specs.Table.{Program, nodes, nodeAt, statementAt, isLeave, Statement, nothing, loop}
 use Rattle.rules.specs.WellFormed.{isExpression, isStatement, expressionPart, statementPart, openParts}
 use Rattle.rules.proofs.AnswerLaws.{both-left, both-right}
 use Rattle.rules.proofs.ChoiceLaws.{bool-cases, all-at}
@@ -73,15 +73,15 @@ joined-put n local x y planes held-words left-words held left size is-held is-le
       left = used-put-used first first-size left-words left-many ∙ rw (← is-held, ← is-left, ← same) made-left;
     }
 
-module _ (table : List ℕ) (formed : Formed table) (n : ℕ) (low : n < nodes table) (planes after : List ℕ)
+module _ (program : Program) (formed : Formed program) (n : ℕ) (low : n < nodes program) (planes after : List ℕ)
     (size : length after ≡ allPlanes) (facts-same : factsPlane after ≡ factsPlane planes) where
   abbrev m : Node
-  m = nodeAt table n
+  m = nodeAt program n
 
   few : n < 256
   few = omega (arith, formed .nodes-high)
 
-  unruled : (counts : ℕ → Statement) → (m .kind ≡ 20 → ⊥) → none ≡ leftCode table counts n
+  unruled : (counts : ℕ → Statement) → (m .kind ≡ 20 → ⊥) → none ≡ leftCode program counts n
   unfolding leftCode
   unruled counts other = simp (ne-eqb (m .kind) 20 other)
 
@@ -89,97 +89,97 @@ module _ (table : List ℕ) (formed : Formed table) (n : ℕ) (low : n < nodes t
   by-bits : (held left : Bool) (r : ℕ)
       → leavesPlane after ≡ cond held (withBit (leavesPlane planes) n) (leavesPlane planes)
       → leftPlane after ≡ cond left (withBit (leftPlane planes) n) (leftPlane planes)
-      → ((reading : Reading table n (n + 1)) → HeldTo table (reading .counts) n (leavesPlane planes)
-      → held ≡ holdsLeave table (reading .counts) n)
-      → ((reading : Reading table n (n + 1)) → HeldTo table (reading .counts) n (leavesPlane planes)
-      → FactsTo table (reading .counts) (nodes table) (factsPlane planes) → LeftTo table (reading .counts) n (leftPlane planes)
-      → (left ≡ leftLocally table (reading .counts) n) × (r ≡ leftCode table (reading .counts) n))
-      → NodePassed table n planes after r
+      → ((reading : Reading program n (n + 1)) → HeldTo program (reading .counts) n (leavesPlane planes)
+      → held ≡ holdsLeave program (reading .counts) n)
+      → ((reading : Reading program n (n + 1)) → HeldTo program (reading .counts) n (leavesPlane planes)
+      → FactsTo program (reading .counts) (nodes program) (factsPlane planes) → LeftTo program (reading .counts) n (leftPlane planes)
+      → (left ≡ leftLocally program (reading .counts) n) × (r ≡ leftCode program (reading .counts) n))
+      → NodePassed program n planes after r
   by-bits held left r made-held made-left is-held is-left =
       record {
         size = size;
         facts = facts-same;
         held = λ reading known.
-            plane-more (holdsLeave table (reading .counts)) n (leavesPlane planes) (leavesPlane after) few known
+            plane-more (holdsLeave program (reading .counts)) n (leavesPlane planes) (leavesPlane after) few known
             (rw (← is-held reading known) made-held);
         left = λ reading holding facts known.
             let so = is-left reading holding facts known in (
-              plane-more (leftLocally table (reading .counts)) n (leftPlane planes) (leftPlane after) few known (rw (← so .0) made-left),
+              plane-more (leftLocally program (reading .counts)) n (leftPlane planes) (leftPlane after) few known (rw (← so .0) made-left),
               so .1,
             );
       }
 
   -- where nothing is set
-  shut : Plain table (statementAt table n) → (reading : Reading table n (n + 1))
-      → (holdsLeave table (reading .counts) n ≡ false) × (leftLocally table (reading .counts) n ≡ false)
+  shut : Plain program (statementAt program n) → (reading : Reading program n (n + 1))
+      → (holdsLeave program (reading .counts) n ≡ false) × (leftLocally program (reading .counts) n ≡ false)
   shut (free, closed, single) reading = (
-    holds-at table formed (reading .counts) n ∙ simp (as-it-is reading, free, closed),
-    left-at table formed (reading .counts) n ∙ simp (as-it-is reading, single, closed),
+    holds-at program formed (reading .counts) n ∙ simp (as-it-is reading, free, closed),
+    left-at program formed (reading .counts) n ∙ simp (as-it-is reading, single, closed),
   )
 
   pub pass-other : after ≡ planes → (m .kind ≡ 18 → ⊥) → (m .kind ≡ 19 → ⊥) → (m .kind ≡ 20 → ⊥) → (m .kind ≡ 26 → ⊥)
-      → NodePassed table n planes after none
+      → NodePassed program n planes after none
   unfolding statementAt
   pass-other same no18 no19 no20 no26 =
-      let closed = plain table m no18 no19 no26 in
+      let closed = plain program m no18 no19 no26 in
       by-bits false false none (ap leavesPlane same) (ap leftPlane same) (λ reading known. sym (shut closed reading .0))
       (λ reading holding facts known. (sym (shut closed reading .1), unruled (reading .counts) no20))
 
   pub pass-leave : m .kind ≡ 26 → leavesPlane after ≡ withBit (leavesPlane planes) n → leftPlane after ≡ leftPlane planes
-      → NodePassed table n planes after none
+      → NodePassed program n planes after none
   unfolding statementAt openParts localIf
   pass-leave is made same =
       let s = leave-of m is in
-      by-bits true false none made same (λ reading known. sym (holds-at table formed (reading .counts) n ∙ rw (as-it-is reading, s)))
+      by-bits true false none made same (λ reading known. sym (holds-at program formed (reading .counts) n ∙ rw (as-it-is reading, s)))
       (λ reading holding facts known. (
-        sym (left-at table formed (reading .counts) n ∙ rw (as-it-is reading, s)),
+        sym (left-at program formed (reading .counts) n ∙ rw (as-it-is reading, s)),
         unruled (reading .counts) (omega arith),
       ))
 
   pub pass-loop : {node : Node} → node ≡ m → m .kind ≡ 20 → after ≡ planes → (r : ℕ)
       → r ≡ cond (bitAt (leftPlane planes) (node .b % 256) && bitAt (factsPlane planes) (node .b % 256)) (code 16 n) none
-      → NodePassed table n planes after r
+      → NodePassed program n planes after r
   unfolding statementPart statementAt leftCode effectOf
   pass-loop here is same r answer =
-      let closed = plain table m (omega arith) (omega arith) (omega arith) in
-      let b = part n (m .b) (isStatement table (m .b)) (loop-fields table formed n m refl is .1) in
+      let closed = plain program m (omega arith) (omega arith) (omega arith) in
+      let b = part n (m .b) (isStatement program (m .b)) (loop-fields program formed n m refl is .1) in
       let own : m .b % 256 ≡ m .b = omega (arith, b .0, few) in
       by-bits false false r (ap leavesPlane same) (ap leftPlane same) (λ reading known. sym (shut closed reading .0))
       (λ reading holding facts known.
       let counts = reading .counts in
-      let whole : effect table counts n ≡ effect table counts (m .b) =
-      effect-here table n counts (rw (as-it-is reading) (formed .statement-fits n))
-      ∙ ap (effectOf table (effect table counts)) (as-it-is reading ∙ loop-of m is) in (
+      let whole : effect program counts n ≡ effect program counts (m .b) =
+      effect-here program n counts (rw (as-it-is reading) (formed .statement-fits n))
+      ∙ ap (effectOf program (effect program counts)) (as-it-is reading ∙ loop-of m is) in (
         sym (shut closed reading .1),
         (rw (here, own) at answer)
             ∙ rw (
               known .known (m .b) (b .0),
               facts .known (m .b) (omega (arith, b .0)),
-              fact-statement table counts (m .b) (b .1),
+              fact-statement program counts (m .b) (b .1),
               is,
               whole,
             )
-            (both-fail n (leftLocally table counts (m .b)) (effect table counts (m .b))),
+            (both-fail n (leftLocally program counts (m .b)) (effect program counts (m .b))),
       ))
 
   -- two parts in the same while
-  module _ (x y : ℕ) (low-x : x < n) (low-y : y < n) (parts : openParts (statementAt table n) ≡ x ∷ y ∷ [])
-      (no-leave-here : isLeave (statementAt table n) ≡ false) (other : m .kind ≡ 20 → ⊥) (local : Bool)
-      (is-local : (reading : Reading table n (n + 1)) → FactsTo table (reading .counts) (nodes table) (factsPlane planes)
-      → local ≡ localIf table (statementAt table n)) where
+  module _ (x y : ℕ) (low-x : x < n) (low-y : y < n) (parts : openParts (statementAt program n) ≡ x ∷ y ∷ [])
+      (no-leave-here : isLeave (statementAt program n) ≡ false) (other : m .kind ≡ 20 → ⊥) (local : Bool)
+      (is-local : (reading : Reading program n (n + 1)) → FactsTo program (reading .counts) (nodes program) (factsPlane planes)
+      → local ≡ localIf program (statementAt program n)) where
     either : (test : ℕ → Bool) (plane : List ℕ) → PlaneTo test n plane → eitherBit plane x y ≡ (test x || test y)
     either test plane known =
         let own-x : x % 256 ≡ x = omega (arith, few) in
         let own-y : y % 256 ≡ y = omega (arith, few) in
         rw (own-x, own-y) (rw (known .known x low-x, known .known y low-y))
 
-    held-here : (reading : Reading table n (n + 1)) → HeldTo table (reading .counts) n (leavesPlane planes)
-        → eitherBit (leavesPlane planes) x y ≡ holdsLeave table (reading .counts) n
+    held-here : (reading : Reading program n (n + 1)) → HeldTo program (reading .counts) n (leavesPlane planes)
+        → eitherBit (leavesPlane planes) x y ≡ holdsLeave program (reading .counts) n
     held-here reading known =
-        either (holdsLeave table (reading .counts)) (leavesPlane planes) known
-        ∙ sym (holds-at table formed (reading .counts) n ∙ simp (as-it-is reading, no-leave-here, parts, or-false))
+        either (holdsLeave program (reading .counts)) (leavesPlane planes) known
+        ∙ sym (holds-at program formed (reading .counts) n ∙ simp (as-it-is reading, no-leave-here, parts, or-false))
 
-    pub pass-joined : Joined n local x y planes after → NodePassed table n planes after none
+    pub pass-joined : Joined n local x y planes after → NodePassed program n planes after none
     pass-joined j =
         by-bits (eitherBit (leavesPlane planes) x y)
         ((local && eitherBit (leavesPlane planes) x y) || eitherBit (leftPlane planes) x y)
@@ -188,57 +188,57 @@ module _ (table : List ℕ) (formed : Formed table) (n : ℕ) (low : n < nodes t
           rw (
             is-local reading facts,
             held-here reading holding,
-            either (leftLocally table (reading .counts)) (leftPlane planes) known,
+            either (leftLocally program (reading .counts)) (leftPlane planes) known,
           )
-              (sym (left-at table formed (reading .counts) n ∙ simp (as-it-is reading, parts, or-false))),
+              (sym (left-at program formed (reading .counts) n ∙ simp (as-it-is reading, parts, or-false))),
           unruled (reading .counts) other,
         ))
 
   module _ {node : Node} (here : node ≡ m) where
-    pub pass-sequence : m .kind ≡ 18 → Joined n false (node .a) (node .b) planes after → NodePassed table n planes after none
+    pub pass-sequence : m .kind ≡ 18 → Joined n false (node .a) (node .b) planes after → NodePassed program n planes after none
     unfolding statementPart openParts localIf
     pass-sequence is j =
-        let (first, second) = sequence-fields table formed n m refl is in
-        let a = part n (m .a) (isStatement table (m .a)) first in
-        let b = part n (m .b) (isStatement table (m .b)) second in
-        let s = statement-here table formed n m refl (sequence-of m is) in
+        let (first, second) = sequence-fields program formed n m refl is in
+        let a = part n (m .a) (isStatement program (m .a)) first in
+        let b = part n (m .b) (isStatement program (m .b)) second in
+        let s = statement-here program formed n m refl (sequence-of m is) in
         pass-joined (m .a) (m .b) (a .0) (b .0) (ap openParts s) (ap isLeave s) (omega arith) false
-        (λ reading facts. sym (ap (localIf table) s)) (rw here at j)
+        (λ reading facts. sym (ap (localIf program) s)) (rw here at j)
 
     pub pass-branch : m .kind ≡ 19 → (local : Bool) → local ≡ bitAt (factsPlane planes) (node .a % 256)
-        → Joined n local (node .b) (node .c) planes after → NodePassed table n planes after none
+        → Joined n local (node .b) (node .c) planes after → NodePassed program n planes after none
     unfolding expressionPart statementPart openParts localIf
     pass-branch is local read j =
-        let (test, first, second) = branch-fields table formed n m refl is in
-        let a = part n (m .a) (isExpression table (m .a)) test in
-        let b = part n (m .b) (isStatement table (m .b)) first in
-        let c = part n (m .c) (isStatement table (m .c)) second in
-        let s = statement-here table formed n m refl (branch-of m is) in
+        let (test, first, second) = branch-fields program formed n m refl is in
+        let a = part n (m .a) (isExpression program (m .a)) test in
+        let b = part n (m .b) (isStatement program (m .b)) first in
+        let c = part n (m .c) (isStatement program (m .c)) second in
+        let s = statement-here program formed n m refl (branch-of m is) in
         let own : m .a % 256 ≡ m .a = omega (arith, a .0, few) in
         pass-joined (m .b) (m .c) (b .0) (c .0) (ap openParts s) (ap isLeave s) (omega arith) local
         (λ reading facts.
         (rw (here, own) at read)
         ∙ facts .known (m .a) (omega (arith, a .0))
-        ∙ fact-expression table (reading .counts) (m .a) (reading .each (m .a)) (a .1)
-        ∙ sym (ap (localIf table) s))
+        ∙ fact-expression program (reading .counts) (m .a) (reading .each (m .a)) (a .1)
+        ∙ sym (ap (localIf program) s))
         (rw here at j)
 
 -- the loop
-module _ (table : List ℕ) (reading : ℕ → Statement) (rule : ℕ) (start : List ℕ) where
+module _ (program : Program) (reading : ℕ → Statement) (rule : ℕ) (start : List ℕ) where
   pub passed-none : rule ≤ none → length start ≡ allPlanes → leftPlane start ≡ replicate planeWords 0
-      → leavesPlane start ≡ replicate planeWords 0 → PassedTo table reading rule start 0 start rule
+      → leavesPlane start ≡ replicate planeWords 0 → PassedTo program reading rule start 0 start rule
   unfolding leastBelow
   passed-none high size clear-left clear-held =
       record {
         size = size;
         facts = refl;
-        held = rw clear-held (plane-none (holdsLeave table reading));
-        left = λ facts. (rw clear-left (plane-none (leftLocally table reading)), omega arith);
+        held = rw clear-held (plane-none (holdsLeave program reading));
+        left = λ facts. (rw clear-left (plane-none (leftLocally program reading)), omega arith);
         high = high;
       }
 
-  pub passed-all : {planes : List ℕ} {least n : ℕ} → PassedTo table reading rule start n planes least → n ≡ nodes table
-      → LeavesPassed table reading rule start planes least
+  pub passed-all : {planes : List ℕ} {least n : ℕ} → PassedTo program reading rule start n planes least → n ≡ nodes program
+      → LeavesPassed program reading rule start planes least
   passed-all so-far all =
       record {
         size = so-far .size;
@@ -249,13 +249,13 @@ module _ (table : List ℕ) (reading : ℕ → Statement) (rule : ℕ) (start : 
       }
 
 -- one node more of a stretch
-module _ (table : List ℕ) (first start : ℕ) (before : List ℕ) where
-  pub stretch-none : length before ≡ allPlanes → start ≤ none → NodesPassed table first first start before before start
+module _ (program : Program) (first start : ℕ) (before : List ℕ) where
+  pub stretch-none : length before ≡ allPlanes → start ≤ none → NodesPassed program first first start before before start
   stretch-none size high = record { size = size; high = high; passed = λ reading rule begun so-far. so-far }
 
   pub stretch-more : (n least found least′ : ℕ) (planes after : List ℕ) → first ≤ n
-      → NodesPassed table first n start before planes least → NodePassed table n planes after found → least′ ≡ min least found
-      → NodesPassed table first (n + 1) start before after least′
+      → NodesPassed program first n start before planes least → NodePassed program n planes after found → least′ ≡ min least found
+      → NodesPassed program first (n + 1) start before after least′
   stretch-more n least found least′ planes after from so-far here is =
       record {
         size = here .size;
@@ -271,29 +271,29 @@ module _ (table : List ℕ) (first start : ℕ) (before : List ℕ) where
               left = λ facts.
                   let known = old .left facts in
                   let new = here .left last (old .held) (rw (old .facts) facts) (known .0) in
-                  (new .0, is ∙ rw (known .1, new .1) (omega (arith, least-more (leftCode table counts) n)));
+                  (new .0, is ∙ rw (known .1, new .1) (omega (arith, least-more (leftCode program counts) n)));
               high = omega (arith, is, so-far .high);
             };
       }
 
 -- where no leave counts
 
-module _ (table : List ℕ) (formed : Formed table) (reading : ℕ → Statement) (free : (k : ℕ) → isLeave (reading k) ≡ false) where
-  none-ruled : (n : ℕ) → leftCode table reading n ≡ none
+module _ (program : Program) (formed : Formed program) (reading : ℕ → Statement) (free : (k : ℕ) → isLeave (reading k) ≡ false) where
+  none-ruled : (n : ℕ) → leftCode program reading n ≡ none
   unfolding leftCode
   none-ruled n =
-      let unleft = none-left table formed reading free (nodeAt table n .b) in
-      ⊎-elim (λ (e : eqb (nodeAt table n .kind) 20 ≡ true). simp (e, unleft))
-      (λ (e : eqb (nodeAt table n .kind) 20 ≡ false). simp e)
-      (bool-cases (eqb (nodeAt table n .kind) 20))
+      let unleft = none-left program formed reading free (nodeAt program n .b) in
+      ⊎-elim (λ (e : eqb (nodeAt program n .kind) 20 ≡ true). simp (e, unleft))
+      (λ (e : eqb (nodeAt program n .kind) 20 ≡ false). simp e)
+      (bool-cases (eqb (nodeAt program n .kind) 20))
 
-  none-least : (n : ℕ) → leastBelow (leftCode table reading) n ≡ none
+  none-least : (n : ℕ) → leastBelow (leftCode program reading) n ≡ none
   unfolding leastBelow
   none-least zero = refl
   none-least (suc n) = omega (arith, none-least n, none-ruled n)
 
   pub none-passed : (rule : ℕ) → rule ≤ none → (planes : List ℕ) → length planes ≡ allPlanes
-      → ((k : ℕ) → k < 256 → bitAt (leavesPlane planes) k ≡ false) → LeavesPassed table reading rule planes planes rule
+      → ((k : ℕ) → k < 256 → bitAt (leavesPlane planes) k ≡ false) → LeavesPassed program reading rule planes planes rule
   none-passed rule high planes size clear =
       record {
         size = size;
@@ -301,24 +301,24 @@ module _ (table : List ℕ) (formed : Formed table) (reading : ℕ → Statement
         held =
             record {
               size = leaves-length planes size;
-              known = λ k l. clear k (omega (arith, formed .nodes-high)) ∙ sym (none-held table formed reading free k);
+              known = λ k l. clear k (omega (arith, formed .nodes-high)) ∙ sym (none-held program formed reading free k);
               clear = λ k h l. clear k l;
             };
-        least = λ facts. omega (arith, none-least (nodes table));
+        least = λ facts. omega (arith, none-least (nodes program));
         high = high;
       }
 
-pub none-noted : (table : List ℕ) → Formed table → (rule : ℕ) → rule ≤ none → (planes : List ℕ) → length planes ≡ allPlanes
-    → NotedTo table (nodes table) (leavesPlane planes)
+pub none-noted : (program : Program) → Formed program → (rule : ℕ) → rule ≤ none → (planes : List ℕ) → length planes ≡ allPlanes
+    → NotedTo program (nodes program) (leavesPlane planes)
     → allBelow (λ i. eqb (getD (midOf leavesFrom planeWords planes) i 0) 0) (length (midOf leavesFrom planeWords planes)) ≡ true
-    → LeavesPassed table (statementAt table) rule planes planes rule
-none-noted table formed rule high planes size noted lent =
+    → LeavesPassed program (statementAt program) rule planes planes rule
+none-noted program formed rule high planes size noted lent =
     let all = rw (leaves-lent planes size) at lent in
     let clear : (k : ℕ) → k < 256 → bitAt (leavesPlane planes) k ≡ false =
     λ k l. none-set (leavesPlane planes) all k (omega (arith, noted .size)) in
-    let free : (k : ℕ) → k < nodes table → nodeAt table k .kind ≡ 26 → ⊥ =
-    λ k l. eqb-false (nodeAt table k .kind) 26 (sym (noted .known k l) ∙ clear k (omega (arith, formed .nodes-high))) in
-    none-passed table formed (statementAt table) (no-leaves table formed free) rule high planes size clear
+    let free : (k : ℕ) → k < nodes program → nodeAt program k .kind ≡ 26 → ⊥ =
+    λ k l. eqb-false (nodeAt program k .kind) 26 (sym (noted .known k l) ∙ clear k (omega (arith, formed .nodes-high))) in
+    none-passed program formed (statementAt program) (no-leaves program formed free) rule high planes size clear
 
 -- the two planes, cleared
 module _ (planes left-words held-words : List ℕ) (size : length planes ≡ allPlanes)
@@ -357,8 +357,8 @@ module _ (planes left-words held-words : List ℕ) (size : length planes ≡ all
       }
 
 -- a pass over planes that were cleared
-pub passed-cleared : {table between after : List ℕ} {reading : ℕ → Statement} {rule r : ℕ} (planes : List ℕ) → Cleared planes between
-    → LeavesPassed table reading rule between after r → LeavesPassed table reading rule planes after r
+pub passed-cleared : {program : Program} {between after : List ℕ} {reading : ℕ → Statement} {rule r : ℕ} (planes : List ℕ) → Cleared planes between
+    → LeavesPassed program reading rule between after r → LeavesPassed program reading rule planes after r
 passed-cleared planes clear passed =
     record {
       size = passed .size;

@@ -1,6 +1,5 @@
 -- The refusal by a node's rule from its two parts.
 use mathlib.Core.Bool.{Bool, true, false, not, _&&_, _||_}
-use mathlib.Core.List.{List}
 use mathlib.Core.Logic.{_⊎_, ⊎-elim}
 use mathlib.Core.Path.{_≡_, refl, _∙_, ap}
 use Prim.Native.Nat.{ℕ, _≤_, _<_, min}
@@ -9,7 +8,7 @@ use native.Mathlib.Omega.{arith}
 use borrow.Author.Tests.{eq-eqb, ne-eqb}
 use Rattle.rules.specs.Acceptance.{ruleOf}
 use Rattle.rules.specs.Judgement.{single, effectOf, effect, leftLocally}
-use Rattle.rules.specs.Table.{nodeAt, statementAt, Statement, nothing, loop}
+use Rattle.rules.specs.Table.{Program, nodeAt, statementAt, Statement, nothing, loop}
 use Rattle.rules.specs.WellFormed.{statementFits}
 use Rattle.rules.proofs.KindLaws.{loop-of}
 use Rattle.rules.proofs.ValueLaws.{effect-here}
@@ -28,50 +27,50 @@ both-parts n few false true false = omega arith
 both-parts n few false false true = omega arith
 both-parts n few false false false = omega arith
 
-module _ (table : List ℕ) (reading : ℕ → Statement) (n : ℕ) (few : n < 65536) where
+module _ (program : Program) (reading : ℕ → Statement) (n : ℕ) (few : n < 65536) where
   abbrev a : ℕ
-  a = nodeAt table n .a
+  a = nodeAt program n .a
 
   abbrev b : ℕ
-  b = nodeAt table n .b
+  b = nodeAt program n .b
 
   -- the two parts at a while
   abbrev parts : ℕ
   parts =
-      min (failure 16 n (single table a || not (effect table reading n)))
-      (failure 16 n (not (leftLocally table reading b) || not (effect table reading n)))
+      min (failure 16 n (single program a || not (effect program reading n)))
+      (failure 16 n (not (leftLocally program reading b) || not (effect program reading n)))
 
   -- one that counts has its body's effect
-  counted-loop : nodeAt table n .kind ≡ 20 → statementFits table n (statementAt table n) ≡ true → reading n ≡ statementAt table n
-      → parts ≡ ruleCode table reading n
+  counted-loop : nodeAt program n .kind ≡ 20 → statementFits program n (statementAt program n) ≡ true → reading n ≡ statementAt program n
+      → parts ≡ ruleCode program reading n
   unfolding ruleCode ruleOf effectOf statementAt
   counted-loop e fits here =
-      let is : reading n ≡ loop a b = here ∙ loop-of (nodeAt table n) e in
-      let same : effect table reading n ≡ effect table reading b =
-      effect-here table n reading (rw here fits) ∙ ap (effectOf table (effect table reading)) is in
-      rw (is, same) (both-parts n few (single table a) (leftLocally table reading b) (effect table reading b))
+      let is : reading n ≡ loop a b = here ∙ loop-of (nodeAt program n) e in
+      let same : effect program reading n ≡ effect program reading b =
+      effect-here program n reading (rw here fits) ∙ ap (effectOf program (effect program reading)) is in
+      rw (is, same) (both-parts n few (single program a) (leftLocally program reading b) (effect program reading b))
 
   unruled : (s : Bool) → failure 16 n (s || true) ≡ none
   unruled true = refl
   unruled false = refl
 
   -- one that does not count has none
-  uncounted-loop : reading n ≡ nothing → parts ≡ ruleCode table reading n
+  uncounted-loop : reading n ≡ nothing → parts ≡ ruleCode program reading n
   unfolding ruleCode ruleOf effectOf statementFits
   uncounted-loop dead =
-      let free : effect table reading n ≡ false =
-      effect-here table n reading (rw dead) ∙ ap (effectOf table (effect table reading)) dead in
+      let free : effect program reading n ≡ false =
+      effect-here program n reading (rw dead) ∙ ap (effectOf program (effect program reading)) dead in
       rw (dead, free)
-      (both-parts n few (single table a) (leftLocally table reading b) false
-      ∙ unruled (single table a && not (leftLocally table reading b)))
+      (both-parts n few (single program a) (leftLocally program reading b) false
+      ∙ unruled (single program a && not (leftLocally program reading b)))
 
-  pub rule-whole : ((k : ℕ) → (reading k ≡ statementAt table k) ⊎ (reading k ≡ nothing))
-      → statementFits table n (statementAt table n) ≡ true → ruleCode table reading n ≤ none
-      → min (guardCode table reading n) (leftCode table reading n) ≡ ruleCode table reading n
+  pub rule-whole : ((k : ℕ) → (reading k ≡ statementAt program k) ⊎ (reading k ≡ nothing))
+      → statementFits program n (statementAt program n) ≡ true → ruleCode program reading n ≤ none
+      → min (guardCode program reading n) (leftCode program reading n) ≡ ruleCode program reading n
   unfolding guardCode leftCode
   rule-whole each fits high =
-      elim (ℕ-discrete (nodeAt table n .kind) 20) [
+      elim (ℕ-discrete (nodeAt program n .kind) 20) [
         | yes e ↦
-            simp (eq-eqb (nodeAt table n .kind) 20 e) (⊎-elim (counted-loop e fits) uncounted-loop (each n))
-        | no other ↦ simp (ne-eqb (nodeAt table n .kind) 20 other) (omega arith)
+            simp (eq-eqb (nodeAt program n .kind) 20 e) (⊎-elim (counted-loop e fits) uncounted-loop (each n))
+        | no other ↦ simp (ne-eqb (nodeAt program n .kind) 20 other) (omega arith)
       ]

@@ -6,7 +6,7 @@ use Prim.Native.Nat.{ℕ, _+_, _%_, _≤_, min}
 use lib.Dec.{eqb}
 use lib.ListN.{length, replicate}
 use Rattle.rules.specs.Judgement.{effect, holdsLeave, leftLocally}
-use Rattle.rules.specs.Table.{nodes, nodeAt, Statement}
+use Rattle.rules.specs.Table.{Program, nodes, nodeAt, Statement}
 use Rattle.table.specs.Marks.{bitAt, withBit}
 use Rattle.visit.specs.Facts.{Reading, PlaneTo, FactsTo}
 use Rattle.visit.specs.Fields.{usedPlane, factsPlane, leavesPlane, planeWords, allPlanes}
@@ -17,18 +17,18 @@ abbrev pub leftPlane : List ℕ → List ℕ
 leftPlane planes = usedPlane planes
 
 -- by a reading
-module _ (table : List ℕ) (reading : ℕ → Statement) where
+module _ (program : Program) (reading : ℕ → Statement) where
   abbrev pub HeldTo : ℕ → List ℕ → Type 0
-  HeldTo = PlaneTo (holdsLeave table reading)
+  HeldTo = PlaneTo (holdsLeave program reading)
 
   abbrev pub LeftTo : ℕ → List ℕ → Type 0
-  LeftTo = PlaneTo (leftLocally table reading)
+  LeftTo = PlaneTo (leftLocally program reading)
 
   -- the refusal by 16 at node n where it is a while that is left locally
   unfoldable pub leftCode : ℕ → ℕ
   leftCode n =
-      cond (eqb (nodeAt table n .kind) 20)
-      (failure 16 n (not (leftLocally table reading (nodeAt table n .b)) || not (effect table reading n)))
+      cond (eqb (nodeAt program n .kind) 20)
+      (failure 16 n (not (leftLocally program reading (nodeAt program n .b)) || not (effect program reading n)))
       none
 
 -- one of two nodes has its bit
@@ -47,31 +47,31 @@ pub record Joined (n : ℕ) (local : Bool) (x y : ℕ) (before after : List ℕ)
       (leftPlane before)
 
 -- one node more, by every reading by which it counts as what it is; what is left locally needs the facts
-pub record NodePassed (table : List ℕ) (n : ℕ) (before after : List ℕ) (r : ℕ) : Type 0 where
+pub record NodePassed (program : Program) (n : ℕ) (before after : List ℕ) (r : ℕ) : Type 0 where
   pub size : length after ≡ allPlanes
   pub facts : factsPlane after ≡ factsPlane before
-  pub held : (reading : Reading table n (n + 1)) → HeldTo table (reading .counts) n (leavesPlane before)
-      → HeldTo table (reading .counts) (n + 1) (leavesPlane after)
-  pub left : (reading : Reading table n (n + 1)) → HeldTo table (reading .counts) n (leavesPlane before)
-      → FactsTo table (reading .counts) (nodes table) (factsPlane before) → LeftTo table (reading .counts) n (leftPlane before)
-      → LeftTo table (reading .counts) (n + 1) (leftPlane after) × (r ≡ leftCode table (reading .counts) n)
+  pub held : (reading : Reading program n (n + 1)) → HeldTo program (reading .counts) n (leavesPlane before)
+      → HeldTo program (reading .counts) (n + 1) (leavesPlane after)
+  pub left : (reading : Reading program n (n + 1)) → HeldTo program (reading .counts) n (leavesPlane before)
+      → FactsTo program (reading .counts) (nodes program) (factsPlane before) → LeftTo program (reading .counts) n (leftPlane before)
+      → LeftTo program (reading .counts) (n + 1) (leftPlane after) × (r ≡ leftCode program (reading .counts) n)
 
 -- the nodes below n, and the least refusal so far
-pub record PassedTo (table : List ℕ) (reading : ℕ → Statement) (rule : ℕ) (before : List ℕ) (n : ℕ) (planes : List ℕ) (least : ℕ)
+pub record PassedTo (program : Program) (reading : ℕ → Statement) (rule : ℕ) (before : List ℕ) (n : ℕ) (planes : List ℕ) (least : ℕ)
     : Type 0 where
   pub size : length planes ≡ allPlanes
   pub facts : factsPlane planes ≡ factsPlane before
-  pub held : HeldTo table reading n (leavesPlane planes)
-  pub left : FactsTo table reading (nodes table) (factsPlane before)
-      → LeftTo table reading n (leftPlane planes) × (least ≡ min rule (leastBelow (leftCode table reading) n))
+  pub held : HeldTo program reading n (leavesPlane planes)
+  pub left : FactsTo program reading (nodes program) (factsPlane before)
+      → LeftTo program reading n (leftPlane planes) × (least ≡ min rule (leastBelow (leftCode program reading) n))
   pub high : least ≤ none
 
 -- the nodes from `first` up to `end`, by every reading by which they count as what they are
-pub record NodesPassed (table : List ℕ) (first end start : ℕ) (before after : List ℕ) (r : ℕ) : Type 0 where
+pub record NodesPassed (program : Program) (first end start : ℕ) (before after : List ℕ) (r : ℕ) : Type 0 where
   pub size : length after ≡ allPlanes
   pub high : r ≤ none
-  pub passed : (reading : Reading table first end) (rule : ℕ) (begun : List ℕ)
-      → PassedTo table (reading .counts) rule begun first before start → PassedTo table (reading .counts) rule begun end after r
+  pub passed : (reading : Reading program first end) (rule : ℕ) (begun : List ℕ)
+      → PassedTo program (reading .counts) rule begun first before start → PassedTo program (reading .counts) rule begun end after r
 
 -- before the first node: both planes are clear, and the facts as they were
 pub record Cleared (before after : List ℕ) : Type 0 where
@@ -81,10 +81,10 @@ pub record Cleared (before after : List ℕ) : Type 0 where
   pub left : leftPlane after ≡ replicate planeWords 0
 
 -- all nodes
-pub record LeavesPassed (table : List ℕ) (reading : ℕ → Statement) (rule : ℕ) (before after : List ℕ) (r : ℕ) : Type 0 where
+pub record LeavesPassed (program : Program) (reading : ℕ → Statement) (rule : ℕ) (before after : List ℕ) (r : ℕ) : Type 0 where
   pub size : length after ≡ allPlanes
   pub facts : factsPlane after ≡ factsPlane before
-  pub held : HeldTo table reading (nodes table) (leavesPlane after)
-  pub least : FactsTo table reading (nodes table) (factsPlane before)
-      → r ≡ min rule (leastBelow (leftCode table reading) (nodes table))
+  pub held : HeldTo program reading (nodes program) (leavesPlane after)
+  pub least : FactsTo program reading (nodes program) (factsPlane before)
+      → r ≡ min rule (leastBelow (leftCode program reading) (nodes program))
   pub high : r ≤ none

@@ -7,7 +7,7 @@ ghost use lib.ListN.{length};
 ghost use Rattle.leaves.specs.Leaves.{HeldTo};
 ghost use Rattle.loops.specs.Built.{Built};
 ghost use Rattle.rules.specs.Choice.{firstFailing, allBelow};
-ghost use Rattle.rules.specs.Table.{procedures, nodes, body, statementAt};
+ghost use Rattle.rules.specs.Table.{decode, procedures, nodes, body, statementAt};
 ghost use Rattle.rules.specs.WellFormed.{leaveEnclosed};
 ghost use Rattle.table.specs.Marks.{bitAt};
 ghost use Rattle.visit.specs.Fields.{leavesPlane, allPlanes};
@@ -19,8 +19,8 @@ use table::words::kind_at;
 
 fn bodies_closed(table: &[u8], header: Header, planes: &[u32]) -> bool
     requires { ⌜ Built (now table) header × (length (now planes) ≡ allPlanes) ⌝ }
-    ensures { λ r. ⌜ r ≡ allBelow (λ p. not (bitAt (leavesPlane (now (planes .entry))) (body (now (table .entry)) p % 256)))
-        (procedures (now (table .entry))) ⌝ }
+    ensures { λ r. ⌜ r ≡ allBelow (λ p. not (bitAt (leavesPlane (now (planes .entry))) (body (decode (now (table .entry))) p % 256)))
+        (procedures (decode (now (table .entry)))) ⌝ }
 {
     let count = header.procedures;
     let mut p = 0;
@@ -34,8 +34,8 @@ fn bodies_closed(table: &[u8], header: Header, planes: &[u32]) -> bool
 }
 
 fn enclosed(table: &[u8], header: Header, n: usize) -> bool
-    requires { ⌜ Built (now table) header × (n < nodes (now table)) ⌝ }
-    ensures { λ r. ⌜ r ≡ leaveEnclosed (now (table .entry)) n ⌝ }
+    requires { ⌜ Built (now table) header × (n < nodes (decode (now table))) ⌝ }
+    ensures { λ r. ⌜ r ≡ leaveEnclosed (decode (now (table .entry))) n ⌝ }
 {
     if kind_at(table, header, n) != 26 {
         return true;
@@ -45,7 +45,7 @@ fn enclosed(table: &[u8], header: Header, n: usize) -> bool
 
 fn first_open(table: &[u8], header: Header) -> usize
     requires { ⌜ Built (now table) header ⌝ }
-    ensures { λ r. ⌜ r ≡ firstFailing (leaveEnclosed (now (table .entry))) (nodes (now (table .entry))) ⌝ }
+    ensures { λ r. ⌜ r ≡ firstFailing (leaveEnclosed (decode (now (table .entry)))) (nodes (decode (now (table .entry)))) ⌝ }
 {
     let count = header.nodes;
     let mut n = 0;
@@ -61,8 +61,8 @@ fn first_open(table: &[u8], header: Header) -> usize
 // The first leave with no while around it, in a table whose nodes are all visited.
 pub fn first_loose(table: &[u8], header: Header, planes: &[u32]) -> usize
     requires { ⌜ Built (now table) header × (length (now planes) ≡ allPlanes) ⌝ }
-    requires { ⌜ HeldTo (now table) (statementAt (now table)) (nodes (now table)) (leavesPlane (now planes)) ⌝ }
-    ensures { λ r. ⌜ r ≡ firstFailing (leaveEnclosed (now (table .entry))) (nodes (now (table .entry))) ⌝ }
+    requires { ⌜ HeldTo (decode (now table)) (statementAt (decode (now table))) (nodes (decode (now table))) (leavesPlane (now planes)) ⌝ }
+    ensures { λ r. ⌜ r ≡ firstFailing (leaveEnclosed (decode (now (table .entry)))) (nodes (decode (now (table .entry)))) ⌝ }
 {
     if bodies_closed(table, header, planes) {
         return header.nodes;

@@ -7,43 +7,43 @@ use native.Mathlib.Decide.{decLt}
 use native.Mathlib.Omega.{arith}
 use lib.ListN.{length}
 use borrow.Author.Tests.{not-true, not-false}
-use Rattle.rules.specs.Table.{nodes, procedures, statementAt, isLeave}
+use Rattle.rules.specs.Table.{Program, decode, nodes, procedures, statementAt, isLeave}
 use Rattle.rules.specs.WellFormed.{loopAround, nearestLoop}
 use Rattle.rules.proofs.ChoiceLaws.{first-le, all-at}
-use Rattle.rules.proofs.Formed.{Formed, built, statement-past}
+use Rattle.rules.proofs.Formed.{Formed, built, built-exact, statement-past}
 use Rattle.table.specs.Header.{headerOf}
 use Rattle.table.specs.declared.Header.{Header}
 use Rattle.loops.specs.Built.{Built, hasLeave}
 
 module _ {table : List ℕ} {header : Header} (b : Built table header) where
-  pub built-formed : Formed table
+  pub built-formed : Formed (decode table)
   built-formed = built table (b .well-built)
 
-  pub header-nodes : header .nodes ≡ nodes table
+  pub header-nodes : header .nodes ≡ nodes (decode table)
   unfolding headerOf
   header-nodes = ap (λ h. h .nodes) (b .headed)
 
-  pub header-procedures : header .procedures ≡ procedures table
+  pub header-procedures : header .procedures ≡ procedures (decode table)
   unfolding headerOf
   header-procedures = ap (λ h. h .procedures) (b .headed)
 
   -- what `node_at` asks
-  pub readable : {n : ℕ} → n < nodes table
+  pub readable : {n : ℕ} → n < nodes (decode table)
       → (header ≡ headerOf table) × (4 * (2 + header .procedures + n) + 3 < length table)
-  readable l = (b .headed, omega (arith, header-procedures, built-formed .sized))
+  readable l = (b .headed, omega (arith, header-procedures, built-exact table (b .well-built)))
 
   -- the number of nodes stands for no while
-  pub nearest-few : (n : ℕ) → nearestLoop table n ≤ 256
+  pub nearest-few : (n : ℕ) → nearestLoop (decode table) n ≤ 256
   unfolding nearestLoop
   nearest-few n =
-      omega (arith, first-le (λ w. not (loopAround table n (statementAt table w))) (nodes table), built-formed .nodes-high)
+      omega (arith, first-le (λ w. not (loopAround (decode table) n (statementAt (decode table) w))) (nodes (decode table)), built-formed .nodes-high)
 
 -- a table without leaves
-pub no-leave-at : (table : List ℕ) → Formed table → hasLeave table ≡ false → (n : ℕ) → isLeave (statementAt table n) ≡ false
-no-leave-at table f none n =
-    elim (decLt n (nodes table)) [
+pub no-leave-at : (program : Program) → Formed program → hasLeave program ≡ false → (n : ℕ) → isLeave (statementAt program n) ≡ false
+no-leave-at program f none n =
+    elim (decLt n (nodes program)) [
       | yes l ↦
-          not-true (isLeave (statementAt table n))
-          (all-at (λ m. not (isLeave (statementAt table m))) (nodes table) (not-false _ none) n l)
-      | no m ↦ rw (statement-past table (f .sized) n (omega arith))
+          not-true (isLeave (statementAt program n))
+          (all-at (λ m. not (isLeave (statementAt program m))) (nodes program) (not-false _ none) n l)
+      | no m ↦ rw (statement-past program f n (omega arith))
     ]

@@ -12,8 +12,8 @@ use Rattle.rules.specs.Table.{Statement, nothing, assign, sequence, branch, loo
 use Rattle.rules.specs.WellFormed.{openParts}
 use Rattle.rules.proofs.AnswerLaws.{both-left, both-right, both-true}
 use Rattle.rules.proofs.KindLaws.{sequence-of, branch-of, loop-of, by-kind}
-use Rattle.rules.proofs.LoopLaws.{In, either-cases}
-use Rattle.rules.proofs.PartLaws.{either-right}
+use Rattle.rules.proofs.AnywhereLaws.{In, either-cases}
+use Rattle.rules.proofs.AnywhereLaws.{either-right}
 use Rattle.rules.proofs.VisibleLaws.{contrary}
 use Rattle.loops.specs.Built.{hasBody, hasPart}
 

@@ -7,7 +7,7 @@ use lib.Dec.{eqb}
 use Rattle.rules.specs.declared.Node.{Node}
 use Rattle.rules.specs.declared.Verdict.the-variants.{Accepted}
 use Rattle.rules.specs.Choice.{allBelow}
-use Rattle.rules.specs.Table.{nodes, statementAt, isLeave}
+use Rattle.rules.specs.Table.{Program, nodes, statementAt, isLeave}
 use Rattle.rules.specs.WellFormed.{wellBuilt}
 use Rattle.table.specs.Header.{headerOf}
 use Rattle.table.specs.declared.Header.{Header}
@@ -28,5 +28,5 @@ hasPart m n =
     (cond (eqb (m .kind) 19) (eqb (m .b) n || eqb (m .c) n) false)
 
 -- whether a node of the table is a leave
-abbrev pub hasLeave : List ℕ → Bool
-hasLeave table = not (allBelow (λ n. not (isLeave (statementAt table n))) (nodes table))
+abbrev pub hasLeave : Program → Bool
+hasLeave program = not (allBelow (λ n. not (isLeave (statementAt program n))) (nodes program))

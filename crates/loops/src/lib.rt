@@ -3,7 +3,7 @@
 ghost use mathlib.Core.Bool.{cond};
 ghost use mathlib.Core.Path.{_≡_};
 ghost use Prim.Native.Nat.{_<_};
-ghost use Rattle.rules.specs.Table.{nodes};
+ghost use Rattle.rules.specs.Table.{decode, nodes};
 ghost use Rattle.rules.specs.WellFormed.{nearestLoop};
 ghost use Rattle.loops.specs.Built.{Built, hasBody, hasPart, hasLeave};
 use rules::Node;
@@ -39,8 +39,8 @@ fn outward(node: Node, m: usize, n: usize) -> usize
 // "the nearest while around it in the same procedure", or the number of nodes. Parts lie below the node that names them, so one
 // pass up the nodes meets what names a node after it.
 pub fn nearest_loop(table: &[u8], header: Header, n: usize) -> usize
-    requires { ⌜ Built (now table) header × (n < nodes (now table)) ⌝ }
-    ensures { λ r. ⌜ r ≡ nearestLoop (now (table .entry)) n ⌝ }
+    requires { ⌜ Built (now table) header × (n < nodes (decode (now table))) ⌝ }
+    ensures { λ r. ⌜ r ≡ nearestLoop (decode (now (table .entry))) n ⌝ }
 {
     let count = header.nodes;
     let mut inner = n;
@@ -59,7 +59,7 @@ pub fn nearest_loop(table: &[u8], header: Header, n: usize) -> usize
 // Whether the table has a leave.
 pub fn has_leave(table: &[u8], header: Header) -> bool
     requires { ⌜ Built (now table) header ⌝ }
-    ensures { λ r. ⌜ r ≡ hasLeave (now (table .entry)) ⌝ }
+    ensures { λ r. ⌜ r ≡ hasLeave (decode (now (table .entry))) ⌝ }
 {
     let nodes = header.nodes;
     let mut n = 0;

@@ -13,7 +13,7 @@ use Rattle.rules.specs.Arrivals.{running, waiting, statusAt, endedRecord, withA
 use Rattle.rules.specs.Collective.{arrivalOf, completedState, releasedRoll}
 use Rattle.rules.specs.Process.{processAt, withProcess, environment, depth, top, advanced}
 use Rattle.rules.specs.Step.{moved, completed, arrivedAt, stepRunning, stepTaken}
-use Rattle.rules.specs.Table.{Statement, Collective, nodeAt, statementAt, statementOf, onCollective}
+use Rattle.rules.specs.Table.{Program, Statement, Collective, nodeAt, statementAt, statementOf, onCollective}
 use Rattle.meeting.specs.Meeting.{collectiveOf}
 use Rattle.machine.specs.Outcomes.{Gives}
 use Rattle.process.specs.Given.{isCollective}
@@ -68,35 +68,35 @@ module _ {A : Type 0} (s : Statement) (m : Node) (e : s ≡ statementOf m) (meet
   on-collective : isCollective (m .kind) ≡ true → onCollective s meet other ≡ meet (collectiveOf m)
   on-collective t = ap (λ x. onCollective x meet other) (e ∙ collective-of m t)
 
-module _ (table state roll : List ℕ) (count p : ℕ) (m : Node) (here : m ≡ nodeAt table (top (processAt state p))) where
-  is-top : statementAt table (top (processAt state p)) ≡ statementOf m
+module _ (program : Program) (state roll : List ℕ) (count p : ℕ) (m : Node) (here : m ≡ nodeAt program (top (processAt state p))) where
+  is-top : statementAt program (top (processAt state p)) ≡ statementOf m
   unfolding statementAt
   is-top = ap statementOf (sym here)
 
   pub run-alone : isCollective (m .kind) ≡ false
-      → stepRunning table state roll count p
+      → stepRunning program state roll count p
       ≡ moved state roll count p
-      (advanced table (environment (processAt state p) p count) (processAt state p)
-      (statementAt table (top (processAt state p))))
+      (advanced program (environment (processAt state p) p count) (processAt state p)
+      (statementAt program (top (processAt state p))))
   unfolding stepRunning
-  run-alone f = on-alone (statementAt table (top (processAt state p))) m is-top _ _ f
+  run-alone f = on-alone (statementAt program (top (processAt state p))) m is-top _ _ f
 
   pub run-meets : isCollective (m .kind) ≡ true
-      → stepRunning table state roll count p
+      → stepRunning program state roll count p
       ≡ arrivedAt state
       (withArrival roll p
-      (arrivalOf table (environment (processAt state p) p count) (top (processAt state p)) (collectiveOf m)))
+      (arrivalOf program (environment (processAt state p) p count) (top (processAt state p)) (collectiveOf m)))
       count (top (processAt state p)) (collectiveOf m)
   unfolding stepRunning
-  run-meets t = on-collective (statementAt table (top (processAt state p))) m is-top _ _ t
+  run-meets t = on-collective (statementAt program (top (processAt state p))) m is-top _ _ t
 
-module _ (table state roll : List ℕ) (count p : ℕ) where
-  pub taken-run : statusAt roll p ≡ running → stepTaken table state roll count p ≡ stepRunning table state roll count p
+module _ (program : Program) (state roll : List ℕ) (count p : ℕ) where
+  pub taken-run : statusAt roll p ≡ running → stepTaken program state roll count p ≡ stepRunning program state roll count p
   unfolding stepTaken
   taken-run e = rw (eq-eqb (statusAt roll p) running e)
 
   pub taken-waiting : {team : TeamStatus} → statusAt roll p ≡ waiting → team ≡ teamStatus roll count
-      → Gives (stepTaken table state roll count p) (Taken (record { event = Waiting; team = team })) state roll
+      → Gives (stepTaken program state roll count p) (Taken (record { event = Waiting; team = team })) state roll
   unfolding stepTaken
   taken-waiting e t =
       rw (e)
@@ -104,7 +104,7 @@ module _ (table state roll : List ℕ) (count p : ℕ) where
 
   pub taken-ended : {team : TeamStatus} → (statusAt roll p ≡ running → ⊥) → (statusAt roll p ≡ waiting → ⊥)
       → team ≡ teamStatus roll count
-      → Gives (stepTaken table state roll count p) (Taken (record { event = Ended; team = team })) state roll
+      → Gives (stepTaken program state roll count p) (Taken (record { event = Ended; team = team })) state roll
   unfolding stepTaken
   taken-ended u v t =
       rw (ne-eqb (statusAt roll p) running u, ne-eqb (statusAt roll p) waiting v)

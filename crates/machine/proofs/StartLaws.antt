@@ -12,16 +12,16 @@ use lib.Seq.{ext-getD}
 use borrow.Author.Tests.{lt-ltb, le-ltb, ne-eqb}
 use Rattle.rules.specs.Process.{variablePlaces, gatheredAt, doorsAt, latchesAt, depthAt, stackAt, processWords, depth}
 use Rattle.rules.specs.Start.{startSize, startProcess}
-use Rattle.rules.specs.Table.{variables, mainBody}
+use Rattle.rules.specs.Table.{Program, variables, mainBody}
 use Rattle.rules.proofs.VerdictLaws.{Laid, laid}
 use Rattle.machine.specs.Layout.{laidWord}
 
-module _ (table given : List ℕ) (few : variables table ≤ variablePlaces) (sized : length given ≡ startSize table) where
-  laid-here : Laid table given
-  laid-here = laid table given few sized
+module _ (program : Program) (given : List ℕ) (few : variables program ≤ variablePlaces) (sized : length given ≡ startSize program) where
+  laid-here : Laid program given
+  laid-here = laid program given few sized
 
   behind : (i : ℕ) → latchesAt ≤ i → i < processWords
-      → cond (eqb i depthAt) 1 (cond (eqb i stackAt) (mainBody table) 0) ≡ getD (startProcess table given) i 0
+      → cond (eqb i depthAt) 1 (cond (eqb i stackAt) (mainBody program) 0) ≡ getD (startProcess program given) i 0
   unfolding depth
   behind i h l =
       elim (decLt i depthAt) [
@@ -43,14 +43,14 @@ module _ (table given : List ℕ) (few : variables table ≤ variablePlaces) (si
             ]
       ]
 
-  laid-at : (i : ℕ) → i < processWords → laidWord (variables table) (mainBody table) given i ≡ getD (startProcess table given) i 0
+  laid-at : (i : ℕ) → i < processWords → laidWord (variables program) (mainBody program) given i ≡ getD (startProcess program given) i 0
   laid-at i l =
-      elim (decLt i (variables table)) [
-        | yes a ↦ simp (lt-ltb i (variables table) a) (sym (laid-here .variable i a))
+      elim (decLt i (variables program)) [
+        | yes a ↦ simp (lt-ltb i (variables program) a) (sym (laid-here .variable i a))
         | no a ↦
             elim (decLt i doorsAt) [
               | yes b ↦
-                  simp (le-ltb i (variables table) (omega arith), lt-ltb i doorsAt b)
+                  simp (le-ltb i (variables program) (omega arith), lt-ltb i doorsAt b)
                   (elim (decLt i gatheredAt) [
                     | yes d ↦ sym (laid-here .unused i (omega arith) d)
                     | no d ↦
@@ -61,10 +61,10 @@ module _ (table given : List ℕ) (few : variables table ≤ variablePlaces) (si
                   elim (decLt i latchesAt) [
                     | yes d ↦
                         let e : doorsAt + (i - doorsAt) ≡ i = omega arith in
-                        simp (le-ltb i (variables table) (omega arith), le-ltb i doorsAt (omega arith), lt-ltb i latchesAt d)
+                        simp (le-ltb i (variables program) (omega arith), le-ltb i doorsAt (omega arith), lt-ltb i latchesAt d)
                         (sym (rw e at (laid-here .door (i - doorsAt) (omega arith))))
                     | no d ↦
-                        simp (le-ltb i (variables table) (omega arith), le-ltb i doorsAt (omega arith), le-ltb i latchesAt (omega arith))
+                        simp (le-ltb i (variables program) (omega arith), le-ltb i doorsAt (omega arith), le-ltb i latchesAt (omega arith))
                         (behind i (omega arith) l)
                   ]
             ]
@@ -72,10 +72,10 @@ module _ (table given : List ℕ) (few : variables table ≤ variablePlaces) (si
 
   -- words that are laid out so are the process's
   pub laid-all : (words : List ℕ) → length words ≡ processWords
-      → ((i : ℕ) → i < processWords → getD words i 0 ≡ laidWord (variables table) (mainBody table) given i)
-      → words ≡ startProcess table given
+      → ((i : ℕ) → i < processWords → getD words i 0 ≡ laidWord (variables program) (mainBody program) given i)
+      → words ≡ startProcess program given
   laid-all words l h =
-      ext-getD 0 words (startProcess table given) (l ∙ sym (laid-here .sized))
+      ext-getD 0 words (startProcess program given) (l ∙ sym (laid-here .sized))
       (λ i below. h i (omega arith) ∙ laid-at i (omega arith))
 
 -- the start words of a process lie within those that are given

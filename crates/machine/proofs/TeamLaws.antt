@@ -11,7 +11,7 @@ use Rattle.rules.specs.declared.Node.{Node}
 use Rattle.rules.specs.Arrivals.{running, waiting, statusAt, withArrival, allAtOneNode}
 use Rattle.rules.specs.Process.{stackPlaces, processAt, environment, depth, top, needsPlace}
 use Rattle.rules.specs.Step.{placeLacked}
-use Rattle.rules.specs.Table.{nodeAt, statementAt}
+use Rattle.rules.specs.Table.{decode, nodeAt, statementAt}
 use Rattle.rules.specs.WellFormed.{isStatement}
 use Rattle.rules.proofs.ArrivalLaws.{with-arrival-length, with-arrival-other}
 use Rattle.rules.proofs.StatusLaws.{one-node-waits}
@@ -27,15 +27,15 @@ module _ {table : List ℕ} {header : Header} {state roll : List ℕ} {count p :
   pub ready-stacked : Stacked (processAt state p)
   ready-stacked = run-stacked (r .team) (r .within) (r .fits p (r .within)) runs
 
-  pub ready-statement : isStatement table (top (processAt state p)) ≡ true
+  pub ready-statement : isStatement (decode table) (top (processAt state p)) ≡ true
   ready-statement = run-statement (r .team) (r .within) (r .fits p (r .within)) runs
 
-  pub ready-topped : {m : Node} → m ≡ nodeAt table (top (processAt state p))
+  pub ready-topped : {m : Node} → m ≡ nodeAt (decode table) (top (processAt state p))
       → Topped table header (processAt state p) count m
   ready-topped e = run-topped (r .team) (r .within) (r .fits p (r .within)) runs e
 
   -- 24: a full stack has no statement on top that needs a place
-  pub ready-place : needsPlace table (environment (processAt state p) p count) (statementAt table (top (processAt state p))) ≡ true
+  pub ready-place : needsPlace (decode table) (environment (processAt state p) p count) (statementAt (decode table) (top (processAt state p))) ≡ true
       → depth (processAt state p) < stackPlaces
   unfolding placeLacked
   ready-place needs =
@@ -48,7 +48,7 @@ module _ {table : List ℕ} {header : Header} {state roll : List ℕ} {count p :
             absurd (omega arith)
       ]
 
-  pub ready-turn : {m : Node} → m ≡ nodeAt table (top (processAt state p)) → isCollective (m .kind) ≡ false
+  pub ready-turn : {m : Node} → m ≡ nodeAt (decode table) (top (processAt state p)) → isCollective (m .kind) ≡ false
       → Turn table header (processAt state p) p count m
   ready-turn e f = record { topped = ready-topped e; alone = f; place = ready-place }
 
@@ -63,11 +63,11 @@ module _ {table : List ℕ} {header : Header} {state roll : List ℕ} {count p :
         elim (ℕ-discrete q p) [
           | yes e ↦ rw e ready-stacked
           | no other ↦
-              fits-stacked table state roll q (r .fits q l) count (r .team .stated) l
+              fits-stacked (decode table) state roll q (r .fits q l) count (r .team .stated) l
               (λ e. let w : statusAt roll q ≡ 1 = others-wait q l other in omega arith)
         ]
 
-    pub meeting-of : {m : Node} → m ≡ nodeAt table (top (processAt state p)) → isCollective (m .kind) ≡ true
+    pub meeting-of : {m : Node} → m ≡ nodeAt (decode table) (top (processAt state p)) → isCollective (m .kind) ≡ true
         → Meeting (withArrival roll p arrival) count m
     meeting-of e h =
         record {

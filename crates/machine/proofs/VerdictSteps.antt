@@ -26,6 +26,7 @@ use Rattle.process.specs.Given.{Read}
 use Rattle.machine.specs.Layout.{Startable, Starts}
 use Rattle.questions.specs.Asked.{Team}
 use Rattle.machine.specs.Outcomes.{Asked, Ready, Gives}
+use Rattle.rules.specs.Table.{Program, decode}
 
 -- a question that refuses decides, and one that holds leaves the answer to the next
 after-refusal : {a : Verdict} (b : Verdict) {r : Refusal} → a ≡ Failed r → (a then b) ≡ Failed r
@@ -41,18 +42,18 @@ holds-so false r e = let z : _≡_ {A = ℕ} 0 1 = cc in absurd (omega arith)
 abbrev pub sizes : List ℕ → List ℕ → Verdict
 sizes state roll = question21 (processesIn roll) roll then question20 (processesIn roll) state
 
-abbrev pub standing : List ℕ → List ℕ → List ℕ → ℕ → ℕ → Verdict
-standing table state roll count p = question22 count p then question23 table state roll count
+abbrev pub standing : Program → List ℕ → List ℕ → ℕ → ℕ → Verdict
+standing program state roll count p = question22 count p then question23 program state roll count
 
 module _ (table state roll : List ℕ) (p : ℕ) where
   in-parts : teamVerdict table state roll p
-      ≡ (wellFormed table then (sizes state roll then standing table state roll (processesIn roll) p))
+      ≡ (wellFormed table then (sizes state roll then standing (decode table) state roll (processesIn roll) p))
   unfolding teamVerdict
   in-parts =
       ap (λ v. wellFormed table then v)
       (sym
       (then-assoc (question21 (processesIn roll) roll) (question20 (processesIn roll) state)
-      (standing table state roll (processesIn roll) p)))
+      (standing (decode table) state roll (processesIn roll) p)))
 
   pub unformed : {r : Refusal} → wellFormed table ≡ Failed r → teamVerdict table state roll p ≡ Failed r
   unformed e = in-parts ∙ after-refusal _ e
@@ -62,7 +63,7 @@ module _ (table state roll : List ℕ) (p : ℕ) where
     unsized e = in-parts ∙ after-accepted _ formed ∙ after-refusal _ e
 
     module _ (sized : sizes state roll ≡ Accepted) where
-      pub left-over : teamVerdict table state roll p ≡ standing table state roll (processesIn roll) p
+      pub left-over : teamVerdict table state roll p ≡ standing (decode table) state roll (processesIn roll) p
       left-over = in-parts ∙ after-accepted _ formed ∙ after-accepted _ sized
 
       question-21 : (eqb (length roll) (arrivalSize * processesIn roll) && leb 1 (processesIn roll) && leb (processesIn roll) mostProcesses) ≡ true
@@ -86,23 +87,23 @@ module _ (table state roll : List ℕ) (p : ℕ) where
     pub asked-formed : wellFormed table ≡ Accepted
     asked-formed = then-first (wellFormed table) _ (sym in-parts ∙ holds)
 
-    after-form : (sizes state roll then standing table state roll (processesIn roll) p) ≡ Accepted
+    after-form : (sizes state roll then standing (decode table) state roll (processesIn roll) p) ≡ Accepted
     after-form = then-rest (wellFormed table) _ (sym in-parts ∙ holds)
 
-    after-sizes : standing table state roll (processesIn roll) p ≡ Accepted
+    after-sizes : standing (decode table) state roll (processesIn roll) p ≡ Accepted
     after-sizes = then-rest (sizes state roll) _ after-form
 
     pub asked-of : {header : Header} → header ≡ headerOf table → Asked table header state roll (processesIn roll) p
     asked-of h =
         let last = then-rest (question22 (processesIn roll) p) _ after-sizes in
-        let each = askEach 23 (processesIn roll) (processFits table state roll) in
+        let each = askEach 23 (processesIn roll) (processFits (decode table) state roll) in
         record {
           team = team-of asked-formed (then-first (sizes state roll) _ after-form)
               (record { well-formed = asked-formed; headed = h });
           within = ltb-true p (processesIn roll)
               (holds-so (ltb p (processesIn roll)) (record { number = 22; place = p })
               (then-first (question22 (processesIn roll) p) _ after-sizes));
-          fits = each-passed 23 (processesIn roll) (processFits table state roll) (then-first each _ last);
+          fits = each-passed 23 (processesIn roll) (processFits (decode table) state roll) (then-first each _ last);
           apart = not-true (allAtOneNode roll (processesIn roll)) (ask-holds 23 _ (then-rest each _ last));
         }
 
@@ -118,24 +119,24 @@ module _ (table state roll : List ℕ) (p : ℕ) where
   denied-team e = denied (after-refusal _ e)
 
   module _ (holds : teamVerdict table state roll p ≡ Accepted) where
-    pub denied-place : placeLacked table state roll (processesIn roll) p ≡ true
+    pub denied-place : placeLacked (decode table) state roll (processesIn roll) p ≡ true
         → Gives (stepped table state roll p) (Refused (record { number = 24; place = p })) state roll
     unfolding stepVerdict
     denied-place e = denied (rw (holds, e))
 
-    pub taken-step : placeLacked table state roll (processesIn roll) p ≡ false
-        → stepped table state roll p ≡ stepTaken table state roll (processesIn roll) p
+    pub taken-step : placeLacked (decode table) state roll (processesIn roll) p ≡ false
+        → stepped table state roll p ≡ stepTaken (decode table) state roll (processesIn roll) p
     unfolding stepped steppedBy stepVerdict
     taken-step e = rw (holds, e)
 
 -- questions up to 23 hold, and 24 does
 pub ready-of : {table : List ℕ} {header : Header} {state roll : List ℕ} {count p : ℕ} → Asked table header state roll count p
-    → placeLacked table state roll count p ≡ false → Ready table header state roll count p
+    → placeLacked (decode table) state roll count p ≡ false → Ready table header state roll count p
 ready-of asked e = record { team = asked .team; within = asked .within; fits = asked .fits; place = e }
 
 module _ (table : List ℕ) (count : ℕ) (words state roll : List ℕ) where
   abbrev pub asked : Verdict
-  asked = question18 count then question19 table count words then question20 count state then question21 count roll
+  asked = question18 count then question19 (decode table) count words then question20 count state then question21 count roll
 
   refused-start : {r : Refusal} → startVerdict table count words state roll ≡ Failed r
       → Starts (started table count words state roll) (Failed r) state roll
@@ -154,11 +155,11 @@ module _ (table : List ℕ) (count : ℕ) (words state roll : List ℕ) where
     refused-asked e = refused-start (after-accepted asked formed ∙ e)
 
     module _ (holds : asked ≡ Accepted) where
-      after18 : (question19 table count words then question20 count state then question21 count roll) ≡ Accepted
+      after18 : (question19 (decode table) count words then question20 count state then question21 count roll) ≡ Accepted
       after18 = then-rest (question18 count) _ holds
 
       after19 : (question20 count state then question21 count roll) ≡ Accepted
-      after19 = then-rest (question19 table count words) _ after18
+      after19 = then-rest (question19 (decode table) count words) _ after18
 
       pub started-rolled : length roll ≡ arrivalSize * count
       started-rolled =
@@ -174,12 +175,12 @@ module _ (table : List ℕ) (count : ℕ) (words state roll : List ℕ) where
             well-formed = formed;
             some = leb-true 1 count (both-left (leb 1 count) (leb count mostProcesses) few);
             few = leb-true count mostProcesses (both-right (leb 1 count) (leb count mostProcesses) few);
-            worded = eqb-true (length words) (startSize table * count)
-                (ask-holds 19 _ (then-first (question19 table count words) _ after18));
+            worded = eqb-true (length words) (startSize (decode table) * count)
+                (ask-holds 19 _ (then-first (question19 (decode table) count words) _ after18));
             stated = eqb-true (length state) (processWords * count) (ask-holds 20 _ (then-first (question20 count state) _ after19));
           }
 
-      pub taken-start : {after rolled : List ℕ} → after ≡ startState table count words state
+      pub taken-start : {after rolled : List ℕ} → after ≡ startState (decode table) count words state
           → rolled ≡ startRoll count roll
           → Starts (started table count words state roll) Accepted after rolled
       unfolding started startedBy startVerdict

@@ -10,6 +10,7 @@ use Rattle.rules.specs.declared.Verdict.the-variants.{Accepted}
 use Rattle.rules.specs.Process.{doorsAt, latchesAt, depthAt, stackAt, processWords, mostProcesses}
 use Rattle.rules.specs.Start.{Started, startSize}
 use Rattle.rules.specs.WellFormed.{wellFormed}
+use Rattle.rules.specs.Table.{decode}
 
 -- word i of a process whose start words are `given`: `variables` of them, then the doors
 abbrev pub laidWord : ℕ → ℕ → List ℕ → ℕ → ℕ
@@ -24,7 +25,7 @@ pub record Startable (table : List ℕ) (count : ℕ) (words state : List ℕ) :
   pub well-formed : wellFormed table ≡ Accepted
   pub some : 1 ≤ count
   pub few : count ≤ mostProcesses
-  pub worded : length words ≡ startSize table * count
+  pub worded : length words ≡ startSize (decode table) * count
   pub stated : length state ≡ processWords * count
 
 -- an answer, and the state and the roll afterwards, are a start's

@@ -8,6 +8,7 @@ ghost use Rattle.rules.specs.Evaluation.{doors};
 ghost use Rattle.rules.specs.Process.{variablePlaces, processWords};
 ghost use Rattle.rules.specs.Start.{startState, startRoll};
 ghost use Rattle.machine.specs.Layout.{laidWord, Startable};
+ghost use Rattle.rules.specs.Table.{decode};
 use meeting::arrivals::write;
 use rules::Arrival;
 use rules::Status;
@@ -62,7 +63,7 @@ fn given_to(words: &[u32], size: usize, p: usize) -> &[u32]
 
 pub(crate) fn start_state(table: &[u8], count: u32, words: &[u32], state: &mut [u32])
     requires { ⌜ Startable (now table) count (now words) (now state) ⌝ }
-    ensures { λ _. ⌜ now (state .exit) ≡ startState (now (table .entry)) count (now (words .entry)) (now (state .entry)) ⌝ }
+    ensures { λ _. ⌜ now (state .exit) ≡ startState (decode (now (table .entry))) count (now (words .entry)) (now (state .entry)) ⌝ }
 {
     let head = header(table);
     let variables = head.variables;

@@ -7,7 +7,7 @@ ghost use Rattle.rules.specs.Arrivals.{running, statusAt, withArrival};
 ghost use Rattle.rules.specs.Collective.{arrivalOf};
 ghost use Rattle.rules.specs.Process.{processWords, processAt, withProcess, environment, top, advanced};
 ghost use Rattle.rules.specs.Step.{moved, arrivedAt, stepRunning, stepTaken};
-ghost use Rattle.rules.specs.Table.{statementAt};
+ghost use Rattle.rules.specs.Table.{decode, statementAt};
 ghost use Rattle.process.specs.Given.{isCollective, Turn, Topped};
 ghost use Rattle.meeting.specs.Meeting.{collectiveOf};
 ghost use Rattle.questions.specs.Asked.{Team};
@@ -37,8 +37,8 @@ use table::words::node_at;
 fn advance_in(table: &[u8], header: Header, state: &mut [u32], count: u32, p: usize, node: Node)
     requires { ⌜ (length (now state) ≡ processWords * count) × (p < count) × Turn (now table) header (processAt (now state) p) p count node ⌝ }
     ensures { λ _. ⌜ now (state .exit) ≡ withProcess (now (state .entry)) p
-        (advanced (now (table .entry)) (environment (processAt (now (state .entry)) p) p count) (processAt (now (state .entry)) p)
-        (statementAt (now (table .entry)) (top (processAt (now (state .entry)) p)))) ⌝ }
+        (advanced (decode (now (table .entry))) (environment (processAt (now (state .entry)) p) p count) (processAt (now (state .entry)) p)
+        (statementAt (decode (now (table .entry))) (top (processAt (now (state .entry)) p)))) ⌝ }
 {
     let at = PROCESS_WORDS * p;
     let end = at + PROCESS_WORDS;
@@ -59,8 +59,8 @@ fn move_on(
         × Turn (now table) header (processAt (now state) p) p count node ⌝ }
     ensures { λ r. ⌜ Gives
         (moved (now (state .entry)) (now (roll .entry)) count p
-        (advanced (now (table .entry)) (environment (processAt (now (state .entry)) p) p count) (processAt (now (state .entry)) p)
-        (statementAt (now (table .entry)) (top (processAt (now (state .entry)) p)))))
+        (advanced (decode (now (table .entry))) (environment (processAt (now (state .entry)) p) p count) (processAt (now (state .entry)) p)
+        (statementAt (decode (now (table .entry))) (top (processAt (now (state .entry)) p)))))
         r (now (state .exit)) (now (roll .exit)) ⌝ }
 {
     advance_in(table, header, state, count, p, node);
@@ -92,7 +92,7 @@ fn arrive_in(
     requires { ⌜ Team (now table) header (now state) (now roll) count × (p < count) × (statusAt (now roll) p ≡ running)
         × Topped (now table) header (processAt (now state) p) count node × (isCollective (node .kind) ≡ true) ⌝ }
     ensures { λ _. ⌜ now (roll .exit) ≡ withArrival (now (roll .entry)) p
-        (arrivalOf (now (table .entry)) (environment (processAt (now (state .entry)) p) p count)
+        (arrivalOf (decode (now (table .entry))) (environment (processAt (now (state .entry)) p) p count)
         (top (processAt (now (state .entry)) p)) (collectiveOf node)) ⌝ }
 {
     let words = process_at(state, p);
@@ -115,7 +115,7 @@ fn meet(
     ensures { λ r. ⌜ Gives
         (arrivedAt (now (state .entry))
         (withArrival (now (roll .entry)) p
-        (arrivalOf (now (table .entry)) (environment (processAt (now (state .entry)) p) p count)
+        (arrivalOf (decode (now (table .entry))) (environment (processAt (now (state .entry)) p) p count)
         (top (processAt (now (state .entry)) p)) (collectiveOf node)))
         count (top (processAt (now (state .entry)) p)) (collectiveOf node))
         r (now (state .exit)) (now (roll .exit)) ⌝ }
@@ -149,7 +149,7 @@ pub fn run(
     p: usize,
 ) -> Stepped
     requires { ⌜ Ready (now table) header (now state) (now roll) count p × (statusAt (now roll) p ≡ running) ⌝ }
-    ensures { λ r. ⌜ Gives (stepRunning (now (table .entry)) (now (state .entry)) (now (roll .entry)) count p)
+    ensures { λ r. ⌜ Gives (stepRunning (decode (now (table .entry))) (now (state .entry)) (now (roll .entry)) count p)
         r (now (state .exit)) (now (roll .exit)) ⌝ }
 {
     let n = top(process_at(state, p));
@@ -170,7 +170,7 @@ pub(crate) fn take_turn(
     p: usize,
 ) -> Stepped
     requires { ⌜ Ready (now table) header (now state) (now roll) count p ⌝ }
-    ensures { λ r. ⌜ Gives (stepTaken (now (table .entry)) (now (state .entry)) (now (roll .entry)) count p)
+    ensures { λ r. ⌜ Gives (stepTaken (decode (now (table .entry))) (now (state .entry)) (now (roll .entry)) count p)
         r (now (state .exit)) (now (roll .exit)) ⌝ }
 {
     let status = status_at(roll, p);

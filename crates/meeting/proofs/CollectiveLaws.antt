@@ -10,7 +10,7 @@ use lib.Dec.{eqb}
 use borrow.Author.Tests.{eqb-true}
 use Rattle.rules.specs.declared.Node.{Node}
 use Rattle.rules.specs.Process.{variablePlaces, top}
-use Rattle.rules.specs.Table.{statementOf, collective, barrier, broadcast, exchange, gatheredAreas}
+use Rattle.rules.specs.Table.{decode, statementOf, collective, barrier, broadcast, exchange, gatheredAreas}
 use Rattle.rules.proofs.ChoiceLaws.{bool-cases}
 use Rattle.rules.proofs.KindLaws.{barrier-of, broadcast-of, exchange-of, broadcast-fields, exchange-fields}
 use Rattle.rules.proofs.StackLaws.{StoresLow}
@@ -49,14 +49,14 @@ module _ (m : Node) where
 -- what a process whose top statement is a collective evaluates
 module _ {table : List ℕ} {header : Header} {words : List ℕ} {count : ℕ} {m : Node}
     (t : Topped table header words count m) where
-  pub broadcast-fits : m .kind ≡ 24 → (m .a < variablePlaces) × Part table (m .b) × Part table (m .c)
+  pub broadcast-fits : m .kind ≡ 24 → (m .a < variablePlaces) × Part (decode table) (m .b) × Part (decode table) (m .c)
   broadcast-fits e =
-      let f = broadcast-fields table (top-formed t) (top words) m (t .here) e in
+      let f = broadcast-fields (decode table) (top-formed t) (top words) m (t .here) e in
       (omega (arith, f .0, top-formed t .variables-high), top-part t (f .1), top-part t (f .2))
 
-  pub exchange-fits : m .kind ≡ 25 → Part table (m .a) × (m .b < gatheredAreas)
+  pub exchange-fits : m .kind ≡ 25 → Part (decode table) (m .a) × (m .b < gatheredAreas)
   exchange-fits e =
-      let f = exchange-fields table (top-formed t) (top words) m (t .here) e in
+      let f = exchange-fields (decode table) (top-formed t) (top words) m (t .here) e in
       (top-part t (f .0), f .1)
 
 -- a collective stores below the stack

@@ -8,7 +8,7 @@ ghost use lib.ListN.{length};
 ghost use Rattle.rules.specs.Arrivals.{arrivalSize, waiting, statusAt, runningRecord, endedRecord, withArrival};
 ghost use Rattle.rules.specs.Collective.{arrivalOf, gatheredFrom, sentBy, received, completedState, releasedRoll};
 ghost use Rattle.rules.specs.Process.{processWords, mostProcesses, processAt, environment, top, popped};
-ghost use Rattle.rules.specs.Table.{gatheredAreas};
+ghost use Rattle.rules.specs.Table.{decode, gatheredAreas};
 ghost use Rattle.rules.specs.declared.Status.the-variants.{Running};
 ghost use Rattle.process.specs.Given.{Stacked, isCollective, Topped};
 ghost use Rattle.meeting.specs.Meeting.{Meeting, collectiveOf};
@@ -37,7 +37,7 @@ pub fn arrival_of(
     arrival: Arrival,
 ) -> Arrival
     requires { ⌜ Topped (now table) header (now words) count node × (isCollective (node .kind) ≡ true) × (arrival .status ≡ Running) ⌝ }
-    ensures { λ r. ⌜ r ≡ arrivalOf (now (table .entry)) (environment (now (words .entry)) own count)
+    ensures { λ r. ⌜ r ≡ arrivalOf (decode (now (table .entry))) (environment (now (words .entry)) own count)
         (top (now (words .entry))) (collectiveOf node) ⌝ }
 {
     let n = top(words);

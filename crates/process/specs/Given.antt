@@ -7,7 +7,7 @@ use Prim.Native.Nat.{ℕ, _-_, _≤_, _<_}
 use lib.Dec.{leb}
 use lib.ListN.{length, getD}
 use Rattle.rules.specs.declared.Node.{Node}
-use Rattle.rules.specs.Table.{nodes, nodeAt, statementAt}
+use Rattle.rules.specs.Table.{Program, decode, nodes, nodeAt, statementAt}
 use Rattle.rules.specs.Table.{Operator, sum, difference, product, quotient, less, equal, both}
 use Rattle.rules.specs.WellFormed.{wellFormed, isExpression, isStatement}
 use Rattle.rules.specs.Process.{stackPlaces, processWords, mostProcesses, environment, depth, top, needsPlace}
@@ -37,15 +37,15 @@ pub record Stacked (words : List ℕ) : Type 0 where
   pub bounded : depth words ≤ stackPlaces
 
 -- a node that is an expression of the table
-abbrev pub Part : List ℕ → ℕ → Type 0
-Part table n = (n < nodes table) × (isExpression table n ≡ true)
+abbrev pub Part : Program → ℕ → Type 0
+Part program n = (n < nodes program) × (isExpression program n ≡ true)
 
 -- a process whose top statement is `node`
 pub record Topped (table : List ℕ) (header : Header) (words : List ℕ) (count : ℕ) (node : Node) : Type 0 where
   pub given : Given table header words count
   pub stacked : Stacked words
-  pub here : node ≡ nodeAt table (top words)
-  pub statement : isStatement table (top words) ≡ true
+  pub here : node ≡ nodeAt (decode table) (top words)
+  pub statement : isStatement (decode table) (top words) ≡ true
 
 -- kinds 23 to 25
 abbrev pub isCollective : ℕ → Bool
@@ -55,4 +55,4 @@ isCollective kind = leb 23 kind && leb kind 25
 pub record Turn (table : List ℕ) (header : Header) (words : List ℕ) (own count : ℕ) (node : Node) : Type 0 where
   pub topped : Topped table header words count node
   pub alone : isCollective (node .kind) ≡ false
-  pub place : needsPlace table (environment words own count) (statementAt table (top words)) ≡ true → depth words < stackPlaces
+  pub place : needsPlace (decode table) (environment words own count) (statementAt (decode table) (top words)) ≡ true → depth words < stackPlaces

@@ -6,7 +6,7 @@ ghost use lib.Dec.{ltb};
 ghost use lib.ListN.{length, getD};
 ghost use Rattle.rules.specs.Evaluation.{applied, valueOf, value, doors, gatheredSlot};
 ghost use Rattle.rules.specs.Process.{mostProcesses, gatheredAt, doorsAt, processWords, environment};
-ghost use Rattle.rules.specs.Table.{Operator, expressionOf, gatheredAreas};
+ghost use Rattle.rules.specs.Table.{decode, Operator, expressionOf, gatheredAreas};
 ghost use Rattle.process.specs.Given.{Given, Part, operatorOf};
 use rules::Node;
 use rules::layout::DOOR_PLACES;
@@ -119,8 +119,8 @@ fn slot(words: &[u32], count: u32, x: u32, area: usize) -> u32
 // Calls itself, through `value_at`, on the parts, which lie below the node: the node number falls.
 pub fn evaluate(table: &[u8], header: Header, words: &[u32], own: u32, count: u32, n: usize) -> u32
     requires { ⌜ Given (now table) header (now words) count ⌝ }
-    requires { ⌜ Part (now table) n ⌝ }
-    ensures { λ r. ⌜ r ≡ value (now (table .entry)) (environment (now (words .entry)) own count) n ⌝ }
+    requires { ⌜ Part (decode (now table)) n ⌝ }
+    ensures { λ r. ⌜ r ≡ value (decode (now (table .entry))) (environment (now (words .entry)) own count) n ⌝ }
 {
     let node = node_at(table, header, n);
     let kind = node.kind;
@@ -141,8 +141,8 @@ pub fn evaluate(table: &[u8], header: Header, words: &[u32], own: u32, count: u3
 // The same, and short enough to stand in its callers: most parts are leaves, and a call would cost more than they do.
 pub fn value_at(table: &[u8], header: Header, words: &[u32], own: u32, count: u32, n: usize) -> u32
     requires { ⌜ Given (now table) header (now words) count ⌝ }
-    requires { ⌜ Part (now table) n ⌝ }
-    ensures { λ r. ⌜ r ≡ value (now (table .entry)) (environment (now (words .entry)) own count) n ⌝ }
+    requires { ⌜ Part (decode (now table)) n ⌝ }
+    ensures { λ r. ⌜ r ≡ value (decode (now (table .entry))) (environment (now (words .entry)) own count) n ⌝ }
 {
     let node = node_at(table, header, n);
     let kind = node.kind;

@@ -3,6 +3,7 @@ ghost use mathlib.Core.Path.{_≡_};
 ghost use Rattle.rules.specs.Judgement.{fixing};
 ghost use Rattle.process.specs.Fixed.{fixedAs};
 ghost use Rattle.process.specs.Given.{Read, Part};
+ghost use Rattle.rules.specs.Table.{decode};
 use crate::Fixed;
 use crate::evaluation::apply;
 use crate::evaluation::constant;
@@ -11,8 +12,8 @@ use table::words::node_at;
 
 // Calls itself on the parts, which lie below the node: the node number falls.
 pub fn fixing(table: &[u8], header: Header, n: usize) -> Fixed
-    requires { ⌜ Read (now table) header × Part (now table) n ⌝ }
-    ensures { λ r. ⌜ fixedAs r ≡ fixing (now (table .entry)) n ⌝ }
+    requires { ⌜ Read (now table) header × Part (decode (now table)) n ⌝ }
+    ensures { λ r. ⌜ fixedAs r ≡ fixing (decode (now (table .entry))) n ⌝ }
 {
     let node = node_at(table, header, n);
     let kind = node.kind;

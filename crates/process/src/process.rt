@@ -8,7 +8,7 @@ ghost use lib.ListN.{length, set};
 ghost use Rattle.rules.specs.Evaluation.{value};
 ghost use Rattle.rules.specs.Process.{variablePlaces, latchPlaces, stackPlaces, latchesAt, processWords};
 ghost use Rattle.rules.specs.Process.{processAt, environment, depth, top, popped, replaced, pushed, unwound, advanced, needsPlace};
-ghost use Rattle.rules.specs.Table.{Statement, nodes, body, statementAt};
+ghost use Rattle.rules.specs.Table.{decode, Statement, procedures, nodes, body, statementAt};
 ghost use Rattle.rules.specs.WellFormed.{nearestLoop};
 ghost use Rattle.process.specs.Given.{Read, Given, Stacked, Part, isCollective, Turn};
 use crate::evaluation::value_at;
@@ -70,9 +70,9 @@ fn push(words: &mut [u32], n: u32)
 }
 
 fn assign(table: &[u8], header: Header, words: &mut [u32], own: u32, count: u32, a: usize, b: usize)
-    requires { ⌜ Given (now table) header (now words) count × Stacked (now words) × (a < variablePlaces) × Part (now table) b ⌝ }
+    requires { ⌜ Given (now table) header (now words) count × Stacked (now words) × (a < variablePlaces) × Part (decode (now table)) b ⌝ }
     ensures { λ _. ⌜ now (words .exit)
-        ≡ advanced (now (table .entry)) (environment (now (words .entry)) own count) (now (words .entry))
+        ≡ advanced (decode (now (table .entry))) (environment (now (words .entry)) own count) (now (words .entry))
         (Statement.assign a b) ⌝ }
 {
     let value = value_at(table, header, words, own, count, b);
@@ -89,9 +89,9 @@ fn sequence(words: &mut [u32], a: u32, b: u32)
 }
 
 fn branch(table: &[u8], header: Header, words: &mut [u32], own: u32, count: u32, node: Node)
-    requires { ⌜ Given (now table) header (now words) count × Stacked (now words) × Part (now table) (node .a) ⌝ }
+    requires { ⌜ Given (now table) header (now words) count × Stacked (now words) × Part (decode (now table)) (node .a) ⌝ }
     ensures { λ _. ⌜ now (words .exit)
-        ≡ advanced (now (table .entry)) (environment (now (words .entry)) own count) (now (words .entry))
+        ≡ advanced (decode (now (table .entry))) (environment (now (words .entry)) own count) (now (words .entry))
         (Statement.branch (node .a) (node .b) (node .c)) ⌝ }
 {
     let test = value_at(table, header, words, own, count, node.a as usize);
@@ -103,11 +103,11 @@ fn branch(table: &[u8], header: Header, words: &mut [u32], own: u32, count: u32,
 }
 
 fn repeat(table: &[u8], header: Header, words: &mut [u32], own: u32, count: u32, node: Node)
-    requires { ⌜ Given (now table) header (now words) count × Stacked (now words) × Part (now table) (node .a) ⌝ }
-    requires { ⌜ (needsPlace (now table) (environment (now words) own count) (Statement.loop (node .a) (node .b)) ≡ true
+    requires { ⌜ Given (now table) header (now words) count × Stacked (now words) × Part (decode (now table)) (node .a) ⌝ }
+    requires { ⌜ (needsPlace (decode (now table)) (environment (now words) own count) (Statement.loop (node .a) (node .b)) ≡ true
         → depth (now words) < stackPlaces) ⌝ }
     ensures { λ _. ⌜ now (words .exit)
-        ≡ advanced (now (table .entry)) (environment (now (words .entry)) own count) (now (words .entry))
+        ≡ advanced (decode (now (table .entry))) (environment (now (words .entry)) own count) (now (words .entry))
         (Statement.loop (node .a) (node .b)) ⌝ }
 {
     let test = value_at(table, header, words, own, count, node.a as usize);
@@ -119,9 +119,9 @@ fn repeat(table: &[u8], header: Header, words: &mut [u32], own: u32, count: u32,
 }
 
 fn call(table: &[u8], words: &mut [u32], p: usize)
-    requires { ⌜ Stacked (now words) × (4 * (2 + p) + 3 < length (now table)) ⌝ }
-    requires { ⌜ body (now table) p < 256 ⌝ }
-    ensures { λ _. ⌜ now (words .exit) ≡ replaced (now (words .entry)) (body (now (table .entry)) p) ⌝ }
+    requires { ⌜ Stacked (now words) × (4 * (2 + p) + 3 < length (now table)) × (p < procedures (decode (now table))) ⌝ }
+    requires { ⌜ body (decode (now table)) p < 256 ⌝ }
+    ensures { λ _. ⌜ now (words .exit) ≡ replaced (now (words .entry)) (body (decode (now (table .entry))) p) ⌝ }
 {
     let entry = body(table, p);
     replace(words, entry as u32);
@@ -141,9 +141,9 @@ fn write_latch(words: &mut [u32], place: u32, value: u32)
 }
 
 fn latch(table: &[u8], header: Header, words: &mut [u32], own: u32, count: u32, a: usize, b: usize)
-    requires { ⌜ Given (now table) header (now words) count × Stacked (now words) × Part (now table) a × Part (now table) b ⌝ }
+    requires { ⌜ Given (now table) header (now words) count × Stacked (now words) × Part (decode (now table)) a × Part (decode (now table)) b ⌝ }
     ensures { λ _. ⌜ now (words .exit)
-        ≡ advanced (now (table .entry)) (environment (now (words .entry)) own count) (now (words .entry))
+        ≡ advanced (decode (now (table .entry))) (environment (now (words .entry)) own count) (now (words .entry))
         (Statement.latch a b) ⌝ }
 {
     let place = value_at(table, header, words, own, count, a);
@@ -168,9 +168,9 @@ fn unwind(words: &mut [u32], w: u32)
 
 // "ends the nearest while around it in the same procedure"
 fn leave(table: &[u8], header: Header, words: &mut [u32])
-    requires { ⌜ Read (now table) header × Stacked (now words) × (top (now words) < nodes (now table)) ⌝ }
+    requires { ⌜ Read (now table) header × Stacked (now words) × (top (now words) < nodes (decode (now table))) ⌝ }
     ensures { λ _. ⌜ now (words .exit)
-        ≡ unwound (nearestLoop (now (table .entry)) (top (now (words .entry)))) (depth (now (words .entry))) (now (words .entry)) ⌝ }
+        ≡ unwound (nearestLoop (decode (now (table .entry))) (top (now (words .entry)))) (depth (now (words .entry))) (now (words .entry)) ⌝ }
 {
     let w = nearest_loop(table, header, top(words) as usize);
     unwind(words, w as u32);
@@ -187,8 +187,8 @@ pub fn is_collective(kind: u32) -> bool
 pub fn advance(table: &[u8], header: Header, words: &mut [u32], own: u32, count: u32, node: Node)
     requires { ⌜ Turn (now table) header (now words) own count node ⌝ }
     ensures { λ _. ⌜ now (words .exit)
-        ≡ advanced (now (table .entry)) (environment (now (words .entry)) own count) (now (words .entry))
-        (statementAt (now (table .entry)) (top (now (words .entry)))) ⌝ }
+        ≡ advanced (decode (now (table .entry))) (environment (now (words .entry)) own count) (now (words .entry))
+        (statementAt (decode (now (table .entry))) (top (now (words .entry)))) ⌝ }
 {
     let kind = node.kind;
     let a = node.a as usize;

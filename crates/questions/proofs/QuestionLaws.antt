@@ -14,33 +14,33 @@ use Rattle.rules.specs.Arrivals.{statusAt}
 use Rattle.rules.specs.Evaluation.{Environment, doors}
 use Rattle.rules.specs.Process.{variablePlaces, mostProcesses, depthAt, stackAt, depth, top, needsPlace}
 use Rattle.rules.specs.Step.{stackFits, recordFits}
-use Rattle.rules.specs.Table.{nodes, statementOf}
+use Rattle.rules.specs.Table.{Program, decode, nodes, statementOf}
 use Rattle.rules.specs.WellFormed.{isStatement}
 use Rattle.rules.proofs.ChoiceLaws.{bool-cases, all-at}
 use Rattle.rules.proofs.Formed.{Formed}
 use Rattle.rules.proofs.KindLaws.{by-kind}
 use Rattle.process.proofs.StatementLaws.{statement-below}
 
-pub statement-past : (table : List ℕ) → Formed table → (n : ℕ) → nodes table ≤ n → isStatement table n ≡ false
+pub statement-past : (table : List ℕ) → Formed (decode table) → (n : ℕ) → nodes (decode table) ≤ n → isStatement (decode table) n ≡ false
 statement-past table formed n l =
     ⊎-elim
-    (λ (e : isStatement table n ≡ true). absurd (omega (arith, statement-below table formed n e)))
-    (λ (e : isStatement table n ≡ false). e)
-    (bool-cases (isStatement table n))
+    (λ (e : isStatement (decode table) n ≡ true). absurd (omega (arith, statement-below (decode table) formed n e)))
+    (λ (e : isStatement (decode table) n ≡ false). e)
+    (bool-cases (isStatement (decode table) n))
 
 -- the top of a stack that holds an entry is a statement
-pub top-fits : (table words : List ℕ) → stackFits table words ≡ true → 1 ≤ depth words
-    → isStatement table (top words) ≡ true
+pub top-fits : (program : Program) (words : List ℕ) → stackFits program words ≡ true → 1 ≤ depth words
+    → isStatement program (top words) ≡ true
 unfolding stackFits top
-top-fits table words e l =
+top-fits program words e l =
     let at : stackAt + (depth words - 1) ≡ depthAt + depth words = omega arith in
-    rw at at (all-at (λ i. isStatement table (getD words (stackAt + i) 0)) (depth words) e (depth words - 1) (omega arith))
+    rw at at (all-at (λ i. isStatement program (getD words (stackAt + i) 0)) (depth words) e (depth words - 1) (omega arith))
 
 -- an ended process's stack is empty, and no other's
-pub record-empty : (table words roll : List ℕ) (p : ℕ) → (statusAt roll p ≡ 2 → ⊥) → eqb (depth words) 0 ≡ true
-    → recordFits table words roll p ≡ false
+pub record-empty : (program : Program) (words roll : List ℕ) (p : ℕ) → (statusAt roll p ≡ 2 → ⊥) → eqb (depth words) 0 ≡ true
+    → recordFits program words roll p ≡ false
 unfolding recordFits
-record-empty table words roll p u e =
+record-empty program words roll p u e =
     ⊎-elim
     (λ (f : eqb (statusAt roll p) 0 ≡ true). simp (f, e))
     (λ (f : eqb (statusAt roll p) 0 ≡ false).
@@ -51,11 +51,11 @@ record-empty table words roll p u e =
     (bool-cases (eqb (statusAt roll p) 0))
 
 -- only kinds 18 and 20 can need a stack place
-pub needs-other : (table : List ℕ) (env : Environment) (m : Node) → (m .kind ≡ 18 → ⊥) → (m .kind ≡ 20 → ⊥)
-    → needsPlace table env (statementOf m) ≡ false
+pub needs-other : (program : Program) (env : Environment) (m : Node) → (m .kind ≡ 18 → ⊥) → (m .kind ≡ 20 → ⊥)
+    → needsPlace program env (statementOf m) ≡ false
 unfolding needsPlace
-needs-other table env m n l =
-    by-kind (λ s. needsPlace table env s ≡ false) m (λ e. refl) (λ e. absurd (n e)) (λ e. refl) (λ e. absurd (l e)) (λ e. refl)
+needs-other program env m n l =
+    by-kind (λ s. needsPlace program env s ≡ false) m (λ e. refl) (λ e. absurd (n e)) (λ e. refl) (λ e. absurd (l e)) (λ e. refl)
     (λ e. refl) (λ e. refl) (λ e. refl) (λ e. refl) (λ e. refl) refl
 
 -- the start words of all processes are few

@@ -10,6 +10,7 @@ use Rattle.rules.specs.Process.{stackPlaces, processWords, mostProcesses, depth
 use Rattle.rules.specs.Step.{stackFits, recordFits}
 use Rattle.table.specs.declared.Header.{Header}
 use Rattle.process.specs.Given.{Read}
+use Rattle.rules.specs.Table.{Program}
 
 -- a well-formed table with its header, and a state and a roll of `count` processes
 pub record Team (table : List ℕ) (header : Header) (state roll : List ℕ) (count : ℕ) : Type 0 where
@@ -20,5 +21,5 @@ pub record Team (table : List ℕ) (header : Header) (state roll : List ℕ) (co
   pub rolled : length roll ≡ arrivalSize * count
 
 -- question 23 of one process, by its words
-abbrev pub wordsFit : List ℕ → List ℕ → List ℕ → ℕ → Bool
-wordsFit table words roll p = leb (depth words) stackPlaces && stackFits table words && recordFits table words roll p
+abbrev pub wordsFit : Program → List ℕ → List ℕ → ℕ → Bool
+wordsFit program words roll p = leb (depth words) stackPlaces && stackFits program words && recordFits program words roll p

@@ -7,7 +7,7 @@ ghost use Rattle.rules.specs.Answers.{_then_};
 ghost use Rattle.rules.specs.Process.{environment, top, needsPlace};
 ghost use Rattle.rules.specs.Start.{question18, question19, question20, question21};
 ghost use Rattle.rules.specs.Step.{processesIn, processFits, placeLacked, question22, question23};
-ghost use Rattle.rules.specs.Table.{statementAt};
+ghost use Rattle.rules.specs.Table.{decode, statementAt};
 ghost use Rattle.rules.specs.WellFormed.{wellFormed};
 ghost use Rattle.process.specs.Given.{Topped};
 ghost use Rattle.questions.specs.Asked.{Team};
@@ -42,7 +42,7 @@ pub fn start_asked(
 ) -> Verdict
     requires { ⌜ wellFormed (now table) ≡ Accepted ⌝ }
     ensures { λ r. ⌜ r ≡ (question18 processes
-        then question19 (now (table .entry)) processes (now (words .entry))
+        then question19 (decode (now (table .entry))) processes (now (words .entry))
         then question20 processes (now (state .entry))
         then question21 processes (now (roll .entry))) ⌝ }
 {
@@ -97,8 +97,8 @@ fn needs_place(
     node: Node,
 ) -> bool
     requires { ⌜ Topped (now table) header (now words) count node ⌝ }
-    ensures { λ r. ⌜ r ≡ needsPlace (now (table .entry)) (environment (now (words .entry)) own count)
-        (statementAt (now (table .entry)) (top (now (words .entry)))) ⌝ }
+    ensures { λ r. ⌜ r ≡ needsPlace (decode (now (table .entry))) (environment (now (words .entry)) own count)
+        (statementAt (decode (now (table .entry))) (top (now (words .entry)))) ⌝ }
 {
     let kind = node.kind;
     if kind == 18 {
@@ -120,8 +120,8 @@ pub fn place_lacked(
     p: usize,
 ) -> bool
     requires { ⌜ Team (now table) header (now state) (now roll) count × (p < count)
-        × (processFits (now table) (now state) (now roll) p ≡ true) ⌝ }
-    ensures { λ r. ⌜ r ≡ placeLacked (now (table .entry)) (now (state .entry)) (now (roll .entry)) count p ⌝ }
+        × (processFits (decode (now table)) (now state) (now roll) p ≡ true) ⌝ }
+    ensures { λ r. ⌜ r ≡ placeLacked (decode (now (table .entry))) (now (state .entry)) (now (roll .entry)) count p ⌝ }
 {
     if status_at(roll, p) != 0 {
         return false;
@@ -145,7 +145,7 @@ pub fn team_asked(
 ) -> Verdict
     requires { ⌜ Team (now table) header (now state) (now roll) count ⌝ }
     ensures { λ r. ⌜ r ≡ (question22 count process
-        then question23 (now (table .entry)) (now (state .entry)) (now (roll .entry)) count) ⌝ }
+        then question23 (decode (now (table .entry))) (now (state .entry)) (now (roll .entry)) count) ⌝ }
 {
     if process >= count {
         return refused(22, process);

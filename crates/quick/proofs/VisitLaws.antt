@@ -10,7 +10,7 @@ use lib.Dec.{ltb, eqb}
 use lib.ListN.{length}
 use borrow.Author.Tests.{ltb-true, lt-leb, eq-eqb, eqb-false, ne-eqb}
 use Rattle.rules.specs.declared.Node.{Node}
-use Rattle.rules.specs.Table.{procedures, nodes, nodeAt}
+use Rattle.rules.specs.Table.{decode, procedures, nodes, nodeAt}
 use Rattle.rules.specs.WellFormed.{nodeFits, kindKnown}
 use Rattle.table.specs.Marks.{withBit}
 use Rattle.table.specs.Roles.{fieldFits}
@@ -47,55 +47,55 @@ module _ (table : List ℕ) (v : Visit) (sized : Sized table (v .header)) (low :
 
   -- an arm of the match, by the roles of its kind, by what judges it, and by the leave that is noted
   arm : (m : Node) (roles source question guard r : ℕ) (before now between after : List ℕ) (used : Bool)
-      → m ≡ nodeAt table n
+      → m ≡ nodeAt (decode table) n
       → Named (m .kind) roles
-      → (n < nodes table → nodeFits table n ≡ true → (reading : Reading table n (n + 1)) → FactsTo table (reading .counts) n (factsPlane before)
-      → Judges table (reading .counts) n (factsPlane before) source question guard)
+      → (n < nodes (decode table) → nodeFits (decode table) n ≡ true → (reading : Reading (decode table) n (n + 1)) → FactsTo (decode table) (reading .counts) n (factsPlane before)
+      → Judges (decode table) (reading .counts) n (factsPlane before) source question guard)
       → length before ≡ allPlanes
-      → Fields table v m roles before now used
+      → Fields (decode table) v m roles before now used
       → Kept used now between
-      → Settled table v m used source question guard between after r
+      → Settled (decode table) v m used source question guard between after r
       → (used ≡ true → leavesPlane between ≡ cond (eqb (m .kind) 26) (withBit (leavesPlane now) n) (leavesPlane now))
-      → Visited table v before after r
+      → Visited (decode table) v before after r
   arm m roles source question guard r before now between after used here named judges size f k s noted =
-      let inside : n < nodes table = omega (arith, sized .nodes-read) in
+      let inside : n < nodes (decode table) = omega (arith, sized .nodes-read) in
       let few : n < 256 = omega (arith, inside, sized .nodes-high) in
       let free : (r ≡ 0 → ⊥) → used ≡ true =
-      λ h. settled-used table v m used source question guard between after r s h in
+      λ h. settled-used (decode table) v m used source question guard between after r s h in
       let idle : r ≡ 0 → used ≡ false =
-      λ e. settled-unused table v m used source question guard between after r s e in
+      λ e. settled-unused (decode table) v m used source question guard between after r s e in
       let facts-same : factsPlane between ≡ factsPlane before = k .facts ∙ f .facts in
-      let taken : (r ≡ 0 → ⊥) → Quick table n (usedPlane before) (usedPlane now) =
-      λ h. quickly table v m here roles named (usedPlane before) (f .taken (free h)) in
+      let taken : (r ≡ 0 → ⊥) → Quick (decode table) n (usedPlane before) (usedPlane now) =
+      λ h. quickly (decode table) v m here roles named (usedPlane before) (f .taken (free h)) in
       record {
         size = s .size;
         same = λ e. s .same (idle e) ∙ k .same (idle e) ∙ f .same (idle e);
         stuck = λ e all best high.
-            stuck-by table v m here roles named (usedPlane before) (used-length before size) few all best high
+            stuck-by (decode table) v m here roles named (usedPlane before) (used-length before size) few all best high
             (sym (f .answer) ∙ idle e);
         taken = λ h. rw (s .marks ∙ k .marks) (taken h);
-        called = λ h. calls-below table v m here roles named (usedPlane before) (sym (f .answer) ∙ free h);
+        called = λ h. calls-below (decode table) v m here roles named (usedPlane before) (sym (f .answer) ∙ free h);
         noted = λ h known.
-            plane-more (λ i. eqb (nodeAt table i .kind) 26) n (leavesPlane before) (leavesPlane after) few known
+            plane-more (λ i. eqb (nodeAt (decode table) i .kind) 26) n (leavesPlane before) (leavesPlane after) few known
             (s .leaves ∙ noted (free h) ∙ rw (here, f .leaves) refl);
         facts = λ h reading known.
-            settled-judged table v m used source question guard between after r s here (free h) few (reading .counts)
+            settled-judged (decode table) v m used source question guard between after r s here (free h) few (reading .counts)
             (rw facts-same known) (rw facts-same (judges inside (taken h .fits) reading known));
       }
 
   -- that of a leave
   pub leave-arm : (m : Node) (roles source question guard r : ℕ) (before now between after : List ℕ) (used : Bool)
-      → m ≡ nodeAt table n
+      → m ≡ nodeAt (decode table) n
       → Named (m .kind) roles
-      → (n < nodes table → nodeFits table n ≡ true → (reading : Reading table n (n + 1)) → FactsTo table (reading .counts) n (factsPlane before)
-      → Judges table (reading .counts) n (factsPlane before) source question guard)
+      → (n < nodes (decode table) → nodeFits (decode table) n ≡ true → (reading : Reading (decode table) n (n + 1)) → FactsTo (decode table) (reading .counts) n (factsPlane before)
+      → Judges (decode table) (reading .counts) n (factsPlane before) source question guard)
       → length before ≡ allPlanes
-      → Fields table v m roles before now used
+      → Fields (decode table) v m roles before now used
       → Kept used now between
-      → Settled table v m used source question guard between after r
+      → Settled (decode table) v m used source question guard between after r
       → m .kind ≡ 26
       → (used ≡ true → leavesPlane between ≡ withBit (leavesPlane now) n)
-      → Visited table v before after r
+      → Visited (decode table) v before after r
   leave-arm m roles source question guard r before now between after used here named judges size f k s is noted =
       arm m roles source question guard r before now between after used here named judges size f k s
       (λ e. noted e ∙ simp (eq-eqb (m .kind) 26 is))
@@ -104,35 +104,35 @@ module _ (table : List ℕ) (v : Visit) (sized : Sized table (v .header)) (low :
   pub word-arm : {Key : ℕ → Type 0} {kind roles source question r : ℕ} {word m : Node} {before now after : List ℕ} {used : Bool}
       (guard : Node → ℕ)
       → ((k : ℕ) → Key k → Named k roles)
-      → (n < nodes table → nodeFits table n ≡ true → (reading : Reading table n (n + 1)) → FactsTo table (reading .counts) n (factsPlane before)
-      → Key (nodeAt table n .kind)
-      → Judges table (reading .counts) n (factsPlane before) source question (guard (nodeAt table n)))
+      → (n < nodes (decode table) → nodeFits (decode table) n ≡ true → (reading : Reading (decode table) n (n + 1)) → FactsTo (decode table) (reading .counts) n (factsPlane before)
+      → Key (nodeAt (decode table) n .kind)
+      → Judges (decode table) (reading .counts) n (factsPlane before) source question (guard (nodeAt (decode table) n)))
       → ((k : ℕ) → Key k → k ≡ 26 → ⊥)
       → length before ≡ allPlanes
-      → word ≡ nodeAt table n
+      → word ≡ nodeAt (decode table) n
       → kind ≡ word .kind
       → Key kind
       → m ≡ word
-      → Fields table v m roles before now used
-      → Settled table v m used source question (guard m) now after r
-      → Visited table v before after r
+      → Fields (decode table) v m roles before now used
+      → Settled (decode table) v m used source question (guard m) now after r
+      → Visited (decode table) v before after r
   word-arm {Key} {kind} {roles} {source} {question} {r} {word} {m} {before} {now} {after} {used} guard named judges other size here is key
       node f s =
-      let same : m ≡ nodeAt table n = node ∙ here in
-      let key-here : Key (nodeAt table n .kind) = rw (is ∙ ap (λ (m : Node). m .kind) here) at key in
+      let same : m ≡ nodeAt (decode table) n = node ∙ here in
+      let key-here : Key (nodeAt (decode table) n .kind) = rw (is ∙ ap (λ (m : Node). m .kind) here) at key in
       let key-node : Key (m .kind) = rw (← same) at key-here in
       arm m roles source question (guard m) r before now now after used same (named (m .kind) key-node)
       (λ inside fits reading known. rw same (judges inside fits reading known key-here)) size f (kept-none used now (f .size)) s
       (λ e. simp (ne-eqb (m .kind) 26 (other (m .kind) key-node)))
 
   -- a kind that is not known
-  pub no-arm : (before : List ℕ) → length before ≡ allPlanes → kindKnown table n ≡ false → Visited table v before before 0
+  pub no-arm : (before : List ℕ) → length before ≡ allPlanes → kindKnown (decode table) n ≡ false → Visited (decode table) v before before 0
   no-arm before size unknown =
       record {
         size = size;
         same = λ e. refl;
         stuck = λ e all.
-            stuck-kind table v (usedPlane before) (omega (arith, low, sized .nodes-read, sized .nodes-high)) unknown;
+            stuck-kind (decode table) v (usedPlane before) (omega (arith, low, sized .nodes-read, sized .nodes-high)) unknown;
         taken = λ found. absurd (found refl);
         called = λ found. absurd (found refl);
         noted = λ found. absurd (found refl);
@@ -141,12 +141,12 @@ module _ (table : List ℕ) (v : Visit) (sized : Sized table (v .header)) (low :
 
 -- a call that is taken names a procedure
 pub called-below : {table : List ℕ} {v : Visit} {m : Node} {before after : List ℕ} {r : Bool} → Sized table (v .header)
-    → Fields table v m 400 before after r → r ≡ true → m .a < v .header .procedures
+    → Fields (decode table) v m 400 before after r → r ≡ true → m .a < v .header .procedures
 unfolding fieldFits
 called-below {table} {v} {m} {before} sized f taken =
-    let t = three table (usedPlane before) v m 400 (f .taken taken .free) in
-    let fits : ltb (m .a) (procedures table) ≡ true = free-fits table (usedPlane before) v 4 (m .a) (t .a) in
-    omega (arith, ltb-true (m .a) (procedures table) fits, sized .procedures-read)
+    let t = three (decode table) (usedPlane before) v m 400 (f .taken taken .free) in
+    let fits : ltb (m .a) (procedures (decode table)) ≡ true = free-fits (decode table) (usedPlane before) v 4 (m .a) (t .a) in
+    omega (arith, ltb-true (m .a) (procedures (decode table)) fits, sized .procedures-read)
 
 -- what the match leaves once no arm before fits
 

@@ -2,7 +2,7 @@
 ghost use mathlib.Core.Path.{_≡_};
 ghost use Prim.Native.Nat.{_<_};
 ghost use lib.ListN.{length};
-ghost use Rattle.rules.specs.Table.{unpacked, nodeAt};
+ghost use Rattle.rules.specs.Table.{decode, unpacked, nodeAt};
 ghost use Rattle.table.specs.Sized.{Sized};
 ghost use Rattle.quick.specs.Visited.{Visited};
 ghost use Rattle.visit.specs.Fields.{allPlanes};
@@ -28,8 +28,8 @@ use visit::noted::note_leave;
 // pass. Whether a while is left locally is not looked at here.
 pub fn quick(table: &[u8], planes: &mut [u32], visit: Visit, packed: u32) -> usize
     requires { ⌜ Sized (now table) (visit .header) × (visit .node < visit .header .nodes) × (length (now planes) ≡ allPlanes) ⌝ }
-    requires { ⌜ unpacked packed ≡ nodeAt (now table) (visit .node) ⌝ }
-    ensures { λ r. ⌜ Visited (now (table .entry)) visit (now (planes .entry)) (now (planes .exit)) r ⌝ }
+    requires { ⌜ unpacked packed ≡ nodeAt (decode (now table)) (visit .node) ⌝ }
+    ensures { λ r. ⌜ Visited (decode (now (table .entry))) visit (now (planes .entry)) (now (planes .exit)) r ⌝ }
 {
     let kind = kind_of(packed);
     match kind {

@@ -16,7 +16,7 @@ use Rattle.rules.specs.Collective.{gatheredFrom, received, completedStat
 use Rattle.rules.specs.Evaluation.{gatheredSlot}
 use Rattle.rules.specs.Process.{gatheredAt, processAt, eachProcess, top, popped}
 use Rattle.rules.specs.Step.{Outcome, processesIn, stepVerdict, completed, arrivedAt, stepRunning, stepTaken, steppedBy, stepped}
-use Rattle.rules.specs.Table.{Collective, barrier, broadcast, exchange, statementAt}
+use Rattle.rules.specs.Table.{Program, decode, Collective, barrier, broadcast, exchange, statementAt}
 use Rattle.rules.proofs.BelowLaws.{below-length}
 use Rattle.rules.proofs.TurnCases.{on-collective, by-test}
 
@@ -55,23 +55,23 @@ buffered-arrived : (state roll : List ℕ) (count node : ℕ) (k : Collective)
 unfolding bufferedArrived bufferedCompleted arrivedAt completed
 buffered-arrived state roll count node k = rw (buffered-state roll count k state)
 
-module _ (table state roll : List ℕ) (p : ℕ) where
+module _ (program : Program) (state roll : List ℕ) (p : ℕ) where
   abbrev count : ℕ
   count = processesIn roll
 
-  buffered-running : bufferedRunning table state roll count p ≡ stepRunning table state roll count p
+  buffered-running : bufferedRunning program state roll count p ≡ stepRunning program state roll count p
   unfolding bufferedRunning stepRunning
   buffered-running =
-      on-collective (λ (o : Outcome). o ≡ stepRunning table state roll count p) (statementAt table (top (processAt state p))) _
-      (stepRunning table state roll count p) (λ k e. rw e (buffered-arrived _ _ _ _ k)) refl
+      on-collective (λ (o : Outcome). o ≡ stepRunning program state roll count p) (statementAt program (top (processAt state p))) _
+      (stepRunning program state roll count p) (λ k e. rw e (buffered-arrived _ _ _ _ k)) refl
 
-  buffered-by : (verdict : Verdict) → bufferedBy verdict table state roll p ≡ steppedBy verdict table state roll p
+  buffered-by : (verdict : Verdict) → bufferedBy verdict program state roll p ≡ steppedBy verdict program state roll p
   unfolding bufferedBy steppedBy stepTaken
   buffered-by Accepted =
-      by-test (λ (o : Outcome). o ≡ stepTaken table state roll count p) (eqb (statusAt roll p) running) _ _
+      by-test (λ (o : Outcome). o ≡ stepTaken program state roll count p) (eqb (statusAt roll p) running) _ _
       (λ e. rw e buffered-running) (λ e. refl)
   buffered-by (Refused r) = refl
 
 pub same-as-buffered : SameAsBuffered
 unfolding bufferedStep stepped
-same-as-buffered table state roll p = buffered-by table state roll p (stepVerdict table state roll p)
+same-as-buffered table state roll p = buffered-by (decode table) state roll p (stepVerdict table state roll p)

@@ -13,7 +13,7 @@ use Rattle.rules.specs.Evaluation.{Environment, value}
 use Rattle.rules.specs.Process.{latchPlaces, latchesAt, depthAt, stackPlaces, processWords, processAt}
 use Rattle.rules.specs.Process.{depth, top, popped, replaced, pushed, unwound, advanced, needsPlace}
 use Rattle.rules.specs.Step.{stackFits, recordFits, processFits}
-use Rattle.rules.specs.Table.{body, statementAt}
+use Rattle.rules.specs.Table.{Program, body, statementAt}
 use Rattle.rules.specs.Table.{Statement, nothing, assign, sequence, branch, loop, call, latch, collective, leave}
 use Rattle.rules.specs.WellFormed.{isStatement, nearestLoop}
 use Rattle.rules.proofs.AnswerLaws.{both-true}
@@ -101,65 +101,65 @@ module _ (Q : List ℕ → Type 0)
       picked false f g = g
 
 -- every entry is a statement: what question 23 asks of a stack
-abbrev pub Statements : List ℕ → List ℕ → Type 0
-Statements table words = Each (λ n i. isStatement table n ≡ true) words
+abbrev pub Statements : Program → List ℕ → Type 0
+Statements program words = Each (λ n i. isStatement program n ≡ true) words
 
 -- with a record that fits, question 23 holds of the process
-pub statements-fit : (table state roll : List ℕ) (q : ℕ) → Statements table (processAt state q)
-    → recordFits table (processAt state q) roll q ≡ true → processFits table state roll q ≡ true
+pub statements-fit : (program : Program) (state roll : List ℕ) (q : ℕ) → Statements program (processAt state q)
+    → recordFits program (processAt state q) roll q ≡ true → processFits program state roll q ≡ true
 unfolding processFits stackFits
-statements-fit table state roll q all fits =
+statements-fit program state roll q all fits =
     let words = processAt state q in
     both-true _ _
     (both-true _ _ (le-leb (depth words) stackPlaces (all .depth-high))
-    (all-true (λ i. isStatement table (entry words i)) (depth words) (all .entries)))
+    (all-true (λ i. isStatement program (entry words i)) (depth words) (all .entries)))
     fits
 
-module _ (table : List ℕ) where
+module _ (program : Program) where
   abbrev sort : ℕ → ℕ → Type 0
-  sort n i = isStatement table n ≡ true
+  sort n i = isStatement program n ≡ true
 
   -- a step of a statement that has the place it needs
-  module _ (f : Formed table) (words : List ℕ) (sized : length words ≡ processWords) (all : Statements table words)
+  module _ (f : Formed program) (words : List ℕ) (sized : length words ≡ processWords) (all : Statements program words)
       (h : 0 < depth words) (env : Environment) where
-    looped : (b : ℕ) (test : Bool) → isStatement table b ≡ true → (not test ≡ true → depth words < stackPlaces)
-        → Statements table (cond test (popped words) (pushed words b))
+    looped : (b : ℕ) (test : Bool) → isStatement program b ≡ true → (not test ≡ true → depth words < stackPlaces)
+        → Statements program (cond test (popped words) (pushed words b))
     looped b true s place = each-popped sort words sized all
     looped b false s place = each-pushed sort words sized all b (place refl) s
 
-    chosen : (b c : ℕ) (test : Bool) → (isStatement table b ≡ true) × (isStatement table c ≡ true)
-        → Statements table (replaced words (cond test c b))
+    chosen : (b c : ℕ) (test : Bool) → (isStatement program b ≡ true) × (isStatement program c ≡ true)
+        → Statements program (replaced words (cond test c b))
     chosen b c true s = each-replaced sort words sized all c h (s .1)
     chosen b c false s = each-replaced sort words sized all b h (s .0)
 
-    statements-by : (s : Statement) → statementAt table (top words) ≡ s
-        → (needsPlace table env s ≡ true → depth words < stackPlaces) → Statements table (advanced table env words s)
+    statements-by : (s : Statement) → statementAt program (top words) ≡ s
+        → (needsPlace program env s ≡ true → depth words < stackPlaces) → Statements program (advanced program env words s)
     unfolding advanced needsPlace
     statements-by nothing e place = each-popped sort words sized all
     statements-by (assign a b) e place =
-        let v = value table env b in
+        let v = value program env b in
         each-popped sort (set words a v) (length-set words a v ∙ sized)
-        (set-keeps (Statements table) (each-kept sort) (each-popped sort) words a v (assign-low table f (top words) a b e) all)
+        (set-keeps (Statements program) (each-kept sort) (each-popped sort) words a v (assign-low program f (top words) a b e) all)
     statements-by (sequence a b) e place =
-        let parts = sequence-statements table f (top words) a b e in
+        let parts = sequence-statements program f (top words) a b e in
         each-pushed sort (replaced words b) (replaced-length words b ∙ sized)
         (each-replaced sort words sized all b h (parts .1)) a (rw (replaced-depth words sized b h) (place refl)) (parts .0)
     statements-by (branch a b c) e place =
-        chosen b c (eqb (value table env a) 0) (branch-statements table f (top words) a b c e)
-    statements-by (loop a b) e place = looped b (eqb (value table env a) 0) (loop-statement table f (top words) a b e) place
+        chosen b c (eqb (value program env a) 0) (branch-statements program f (top words) a b c e)
+    statements-by (loop a b) e place = looped b (eqb (value program env a) 0) (loop-statement program f (top words) a b e) place
     statements-by (call q) e place =
-        each-replaced sort words sized all (body table q) h (f .body-statement q (call-below table f (top words) q e))
+        each-replaced sort words sized all (body program q) h (f .body-statement q (call-below program f (top words) q e))
     statements-by (latch a b) e place =
-        let x = value table env a in
-        let v = value table env b in
+        let x = value program env a in
+        let v = value program env b in
         each-popped sort (cond (ltb x latchPlaces) (set words (latchesAt + x) v) words)
         (latched-length words (ltb x latchPlaces) (latchesAt + x) v ∙ sized)
-        (latch-keeps (Statements table) (each-kept sort) (each-popped sort) words x v all)
+        (latch-keeps (Statements program) (each-kept sort) (each-popped sort) words x v all)
     statements-by (collective k) e place = all
     statements-by leave e place =
-        unwound-keeps (Statements table) (each-kept sort) (each-popped sort) (nearestLoop table (top words)) (depth words) words
+        unwound-keeps (Statements program) (each-kept sort) (each-popped sort) (nearestLoop program (top words)) (depth words) words
         sized all
 
-    pub statements-advanced : (needsPlace table env (statementAt table (top words)) ≡ true → depth words < stackPlaces)
-        → Statements table (advanced table env words (statementAt table (top words)))
-    statements-advanced place = statements-by (statementAt table (top words)) refl place
+    pub statements-advanced : (needsPlace program env (statementAt program (top words)) ≡ true → depth words < stackPlaces)
+        → Statements program (advanced program env words (statementAt program (top words)))
+    statements-advanced place = statements-by (statementAt program (top words)) refl place

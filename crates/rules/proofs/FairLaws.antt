@@ -27,13 +27,14 @@ use Rattle.rules.proofs.ArrivalLaws.{with-arrival-length, each-arrival-
 use Rattle.rules.proofs.ChoiceLaws.{first-passed}
 use Rattle.rules.proofs.ServingLaws.{next-found, next-below, by-serving}
 use Rattle.rules.proofs.TurnCases.{by-test, by-step}
+use Rattle.rules.specs.Table.{decode}
 
 -- no turn changes the length of the roll, in whatever state
 module _ (table state roll : List ℕ) (count p : ℕ) where
   abbrev Keeps : Outcome → Type 0
   Keeps outcome = length (outcome .roll) ≡ length roll
 
-  running-keeps : Keeps (stepRunning table state roll count p)
+  running-keeps : Keeps (stepRunning (decode table) state roll count p)
   unfolding completed releasedRoll
   running-keeps =
       by-step table count state roll p (Unit {0}) Keeps
@@ -45,14 +46,14 @@ module _ (table state roll : List ℕ) (count p : ℕ) where
       })
       tt
 
-  taken-keeps : Keeps (stepTaken table state roll count p)
+  taken-keeps : Keeps (stepTaken (decode table) state roll count p)
   unfolding stepTaken
   taken-keeps =
       by-test Keeps (eqb (statusAt roll p) running) _ _ (λ e. running-keeps)
       (λ e. by-test Keeps (eqb (statusAt roll p) waiting) _ _ (λ f. refl) (λ f. refl))
 
 module _ (table state roll : List ℕ) (p : ℕ) where
-  by-keeps : (v : Verdict) → length (steppedBy v table state roll p .roll) ≡ length roll
+  by-keeps : (v : Verdict) → length (steppedBy v (decode table) state roll p .roll) ≡ length roll
   unfolding steppedBy
   by-keeps Accepted = taken-keeps table state roll (processesIn roll) p
   by-keeps (Failed r) = refl

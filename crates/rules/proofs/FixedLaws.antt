@@ -1,13 +1,12 @@
 -- A fixed expression has its fixed value in every environment, and is single.
 use mathlib.Core.Bool.{true}
-use mathlib.Core.List.{List}
 use mathlib.Core.Path.{_≡_, refl, sym, _∙_, ap, subst}
 use Prim.Native.Nat.{ℕ, zero, suc, _<_}
 use native.Mathlib.Omega.{arith}
 use Rattle.rules.specs.Evaluation.{Environment, applied, valueOf, value}
 use Rattle.rules.specs.Judgement.{singleOf, single, Fixing, fixed, unfixed, bothFixed, fixingOf, fixing}
 use Rattle.rules.specs.Switches.{FixedValue, FixedSingle}
-use Rattle.rules.specs.Table.{Operator, expressionAt}
+use Rattle.rules.specs.Table.{Program, decode, Operator, expressionAt}
 use Rattle.rules.specs.Table.{Expression, constant, variable, ownNumber, processCount, door, slot, operation}
 use Rattle.rules.specs.WellFormed.{expressionFits, expressionPart}
 use Rattle.rules.proofs.AnswerLaws.{both-left, both-right}
@@ -29,12 +28,12 @@ both-fixed o (fixed x) unfixed v e = let z : _≡_ {A = ℕ} 0 1 = cc in absurd 
 both-fixed o unfixed y v e = let z : _≡_ {A = ℕ} 0 1 = cc in absurd (omega arith)
 
 -- what holds of constants, and of an operation where it holds of its parts, holds of every fixed expression
-module _ (table : List ℕ) (well : Formed table) (P : ℕ → ℕ → Type 0)
-    (of-constant : (n v : ℕ) → expressionAt table n ≡ constant v → P n v)
-    (of-operation : (n : ℕ) (o : Operator) (a b x y : ℕ) → expressionAt table n ≡ operation o a b → P a x → P b y
+module _ (program : Program) (well : Formed program) (P : ℕ → ℕ → Type 0)
+    (of-constant : (n v : ℕ) → expressionAt program n ≡ constant v → P n v)
+    (of-operation : (n : ℕ) (o : Operator) (a b x y : ℕ) → expressionAt program n ≡ operation o a b → P a x → P b y
     → P n (applied o x y)) where
-  fixed-of : (n v : ℕ) (e : Expression) → expressionAt table n ≡ e → expressionFits table n e ≡ true
-      → fixingOf (fixing table) e ≡ fixed v → ((a u : ℕ) → a < n → fixing table a ≡ fixed u → P a u) → P n v
+  fixed-of : (n v : ℕ) (e : Expression) → expressionAt program n ≡ e → expressionFits program n e ≡ true
+      → fixingOf (fixing program) e ≡ fixed v → ((a u : ℕ) → a < n → fixing program a ≡ fixed u → P a u) → P n v
   unfolding expressionFits fixingOf
   fixed-of n v (constant w) is h e inner = let same : w ≡ v = cc in of-constant n v (is ∙ ap constant same)
   fixed-of n v (variable a) is h e inner = let z : _≡_ {A = ℕ} 0 1 = cc in absurd (omega arith)
@@ -43,37 +42,37 @@ module _ (table : List ℕ) (well : Formed table) (P : ℕ → ℕ → Type 0)
   fixed-of n v (door a) is h e inner = let z : _≡_ {A = ℕ} 0 1 = cc in absurd (omega arith)
   fixed-of n v (slot a r) is h e inner = let z : _≡_ {A = ℕ} 0 1 = cc in absurd (omega arith)
   fixed-of n v (operation o a b) is h e inner =
-      let parts = both-fixed o (fixing table a) (fixing table b) v e in
-      let left = expression-part-below table n a (both-left (expressionPart table n a) (expressionPart table n b) h) in
-      let right = expression-part-below table n b (both-right (expressionPart table n a) (expressionPart table n b) h) in
+      let parts = both-fixed o (fixing program a) (fixing program b) v e in
+      let left = expression-part-below program n a (both-left (expressionPart program n a) (expressionPart program n b) h) in
+      let right = expression-part-below program n b (both-right (expressionPart program n a) (expressionPart program n b) h) in
       subst (P n) (parts .is)
       (of-operation n o a b (parts .left) (parts .right) is (inner a (parts .left) left (parts .left-fixed))
       (inner b (parts .right) right (parts .right-fixed)))
 
-  fixed-below : (k n v : ℕ) → n < k → fixing table n ≡ fixed v → P n v
+  fixed-below : (k n v : ℕ) → n < k → fixing program n ≡ fixed v → P n v
   fixed-below zero n v l e = absurd (omega arith)
   fixed-below (suc k) n v l e =
-      fixed-of n v (expressionAt table n) refl (well .expression-fits n) (sym (fixing-at table well n) ∙ e)
+      fixed-of n v (expressionAt program n) refl (well .expression-fits n) (sym (fixing-at program well n) ∙ e)
       (λ a u m t. fixed-below k a u (omega arith) t)
 
-  by-fixed : (n v : ℕ) → fixing table n ≡ fixed v → P n v
+  by-fixed : (n v : ℕ) → fixing program n ≡ fixed v → P n v
   by-fixed n v e = fixed-below (suc n) n v (omega arith) e
 
-module _ (table : List ℕ) (well : Formed table) where
-  pub fixed-value-in : (env : Environment) (n v : ℕ) → fixing table n ≡ fixed v → value table env n ≡ v
+module _ (program : Program) (well : Formed program) where
+  pub fixed-value-in : (env : Environment) (n v : ℕ) → fixing program n ≡ fixed v → value program env n ≡ v
   unfolding valueOf
   fixed-value-in env =
-      by-fixed table well (λ n v. value table env n ≡ v) (λ n v e. value-at table well env n ∙ rw e)
-      (λ n o a b x y e l r. value-at table well env n ∙ rw (e, l, r))
+      by-fixed program well (λ n v. value program env n ≡ v) (λ n v e. value-at program well env n ∙ rw e)
+      (λ n o a b x y e l r. value-at program well env n ∙ rw (e, l, r))
 
-  pub fixed-single-in : (n v : ℕ) → fixing table n ≡ fixed v → single table n ≡ true
+  pub fixed-single-in : (n v : ℕ) → fixing program n ≡ fixed v → single program n ≡ true
   unfolding singleOf
   fixed-single-in =
-      by-fixed table well (λ n v. single table n ≡ true) (λ n v e. single-at table well n ∙ rw e)
-      (λ n o a b x y e l r. single-at table well n ∙ rw (e, l, r))
+      by-fixed program well (λ n v. single program n ≡ true) (λ n v e. single-at program well n ∙ rw e)
+      (λ n o a b x y e l r. single-at program well n ∙ rw (e, l, r))
 
 pub fixed-value : FixedValue
-fixed-value table accepted env n v e = fixed-value-in table (formed table accepted) env n v e
+fixed-value table accepted env n v e = fixed-value-in (decode table) (formed table accepted) env n v e
 
 pub fixed-single : FixedSingle
-fixed-single table accepted n v e = fixed-single-in table (formed table accepted) n v e
+fixed-single table accepted n v e = fixed-single-in (decode table) (formed table accepted) n v e

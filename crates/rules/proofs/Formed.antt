@@ -9,6 +9,7 @@ use lib.Dec.{leb, ltb, eqb}
 use lib.ListN.{length, getD, List·getD-eq-default}
 use borrow.Author.Tests.{leb-true, ltb-true, eqb-true}
 use Rattle.rules.specs.declared.Verdict.the-variants.{Accepted}
+use Rattle.rules.specs.Table.{Program, decode}
 use Rattle.rules.specs.Table.{wordAt, edition, variables, procedures, nodes, procedureWord, body, unpacked, nodeAt}
 use Rattle.rules.specs.Table.{constant, nothing, leave, expressionOf, statementOf, expressionAt, statementAt}
 use Rattle.rules.specs.WellFormed.{question2, question3, question4, question5, question6, question7, question8}
@@ -19,25 +20,25 @@ use Rattle.rules.proofs.AnswerLaws.{both-left, both-right, then-first, 
 use Rattle.rules.proofs.ChoiceLaws.{Passed}
 
 -- A node past the last reads as the constant 0 and as nothing, so what is said of nodes holds of every number.
-pub record Formed (table : List ℕ) : Type 0 where
-  pub variables-low : 1 ≤ variables table
-  pub variables-high : variables table ≤ 32
-  pub procedures-low : 1 ≤ procedures table
-  pub procedures-high : procedures table ≤ 16
-  pub nodes-low : 1 ≤ nodes table
-  pub nodes-high : nodes table ≤ 256
-  pub sized : length table ≡ 4 * (2 + procedures table + nodes table)
-  pub body-below : (p : ℕ) → p < procedures table → body table p < nodes table
-  pub body-statement : (p : ℕ) → p < procedures table → isStatement table (body table p) ≡ true
-  pub known : (n : ℕ) → n < nodes table → kindKnown table n ≡ true
-  pub expression-fits : (n : ℕ) → expressionFits table n (expressionAt table n) ≡ true
-  pub statement-fits : (n : ℕ) → statementFits table n (statementAt table n) ≡ true
-  pub used-once : (n : ℕ) → n < nodes table → occurrences n (uses table) ≡ 1
-  pub called-below : (n : ℕ) → calledBelow table n (statementAt table n) ≡ true
+pub record Formed (program : Program) : Type 0 where
+  pub variables-low : 1 ≤ variables program
+  pub variables-high : variables program ≤ 32
+  pub procedures-low : 1 ≤ procedures program
+  pub procedures-high : procedures program ≤ 16
+  pub nodes-low : 1 ≤ nodes program
+  pub nodes-high : nodes program ≤ 256
+  pub body-below : (p : ℕ) → p < procedures program → body program p < nodes program
+  pub body-statement : (p : ℕ) → p < procedures program → isStatement program (body program p) ≡ true
+  pub known : (n : ℕ) → n < nodes program → kindKnown program n ≡ true
+  pub past : (n : ℕ) → nodes program ≤ n → nodeAt program n ≡ unpacked 0
+  pub expression-fits : (n : ℕ) → expressionFits program n (expressionAt program n) ≡ true
+  pub statement-fits : (n : ℕ) → statementFits program n (statementAt program n) ≡ true
+  pub used-once : (n : ℕ) → n < nodes program → occurrences n (uses program) ≡ 1
+  pub called-below : (n : ℕ) → calledBelow program n (statementAt program n) ≡ true
 
 -- a leave has a while around it
-abbrev pub Enclosed : List ℕ → Type 0
-Enclosed table = (n : ℕ) → statementAt table n ≡ leave → nearestLoop table n < nodes table
+abbrev pub Enclosed : Program → Type 0
+Enclosed program = (n : ℕ) → statementAt program n ≡ leave → nearestLoop program n < nodes program
 
 -- a word past the table's end reads as 0
 pub word-past : (table : List ℕ) (i : ℕ) → length table ≤ 4 * i → wordAt table i ≡ 0
@@ -49,30 +50,41 @@ word-past table i h =
     let e3 : getD table (4 * i + 3) 0 ≡ 0 = List·getD-eq-default table 0 (omega arith) in
     simp (e0, e1, e2, e3)
 
-module _ (table : List ℕ) (sized : length table ≡ 4 * (2 + procedures table + nodes table)) (n : ℕ) (h : nodes table ≤ n) where
-  node-past : nodeAt table n ≡ unpacked 0
-  unfolding nodeAt
-  node-past = ap unpacked (word-past table (2 + procedures table + n) (omega arith))
+-- the length that word 0 tells
+abbrev pub Exact : List ℕ → Type 0
+Exact table = length table ≡ 4 * (2 + procedures (decode table) + nodes (decode table))
 
+node-past : (table : List ℕ) → Exact table → (n : ℕ) → nodes (decode table) ≤ n → nodeAt (decode table) n ≡ unpacked 0
+unfolding decode procedures nodes nodeAt
+node-past table sized n h = ap unpacked (word-past table (2 + procedures (decode table) + n) (omega (arith, sized)))
+
+module _ (program : Program) (n : ℕ) (blank : nodeAt program n ≡ unpacked 0) where
   -- a node past the last reads as the constant 0 and as nothing
-  pub expression-past : expressionAt table n ≡ constant 0
+  expression-blank : expressionAt program n ≡ constant 0
   unfolding expressionAt expressionOf unpacked
-  expression-past = ap expressionOf node-past
+  expression-blank = ap expressionOf blank
 
-  pub statement-past : statementAt table n ≡ nothing
+  statement-blank : statementAt program n ≡ nothing
   unfolding statementAt statementOf unpacked
-  statement-past = ap statementOf node-past
+  statement-blank = ap statementOf blank
+
+module _ (program : Program) (formed : Formed program) (n : ℕ) (h : nodes program ≤ n) where
+  pub expression-past : expressionAt program n ≡ constant 0
+  expression-past = expression-blank program n (formed .past n h)
+
+  pub statement-past : statementAt program n ≡ nothing
+  statement-past = statement-blank program n (formed .past n h)
 
 -- what questions 2 to 12 ask, once each is passed
-record Passes (table : List ℕ) : Type 0 where
-  header : headerFits table ≡ true
-  sized : length table ≡ 4 * (2 + procedures table + nodes table)
-  procedure : Passed (procedureFits table) (procedures table)
-  known : Passed (kindKnown table) (nodes table)
-  fits : Passed (nodeFits table) (nodes table)
-  statement : Passed (λ p. isStatement table (body table p)) (procedures table)
-  once : Passed (usedOnce table) (nodes table)
-  called : Passed (λ n. calledBelow table n (statementAt table n)) (nodes table)
+pub record Passes (table : List ℕ) : Type 0 where
+  pub header : headerFits table ≡ true
+  pub sized : Exact table
+  pub procedure : Passed (procedureFits table) (procedures (decode table))
+  pub known : Passed (kindKnown (decode table)) (nodes (decode table))
+  pub fits : Passed (nodeFits (decode table)) (nodes (decode table))
+  pub statement : Passed (λ p. isStatement (decode table) (body (decode table) p)) (procedures (decode table))
+  pub once : Passed (usedOnce (decode table)) (nodes (decode table))
+  pub called : Passed (λ n. calledBelow (decode table) n (statementAt (decode table) n)) (nodes (decode table))
 
 passes : (table : List ℕ) → wellBuilt table ≡ Accepted → Passes table
 unfolding wellBuilt
@@ -82,40 +94,40 @@ passes table e =
     let after4 = then-rest (question4 table) _ after3 in
     let after5 = then-rest (question5 table) _ after4 in
     let after6 = then-rest (question6 table) _ after5 in
-    let after7 = then-rest (question7 table) _ after6 in
-    let after8 = then-rest (question8 table) _ after7 in
-    let after9 = then-rest (question9 table) _ after8 in
-    let after10 = then-rest (question10 table) _ after9 in
+    let after7 = then-rest (question7 (decode table)) _ after6 in
+    let after8 = then-rest (question8 (decode table)) _ after7 in
+    let after9 = then-rest (question9 (decode table)) _ after8 in
+    let after10 = then-rest (question10 (decode table)) _ after9 in
     record {
       header = ask-holds 3 _ (then-first (question3 table) _ after2);
       sized = eqb-true _ _ (ask-holds 4 _ (then-first (question4 table) _ after3));
       procedure = each-passed 6 _ _ (then-first (question6 table) _ after5);
-      known = each-passed 7 _ _ (then-first (question7 table) _ after6);
-      fits = each-passed 9 _ _ (then-first (question9 table) _ after8);
-      statement = each-passed 10 _ _ (then-first (question10 table) _ after9);
-      once = each-passed 11 _ _ (then-first (question11 table) _ after10);
-      called = each-passed 12 _ _ (then-rest (question11 table) _ after10);
+      known = each-passed 7 _ _ (then-first (question7 (decode table)) _ after6);
+      fits = each-passed 9 _ _ (then-first (question9 (decode table)) _ after8);
+      statement = each-passed 10 _ _ (then-first (question10 (decode table)) _ after9);
+      once = each-passed 11 _ _ (then-first (question11 (decode table)) _ after10);
+      called = each-passed 12 _ _ (then-rest (question11 (decode table)) _ after10);
     }
 
 -- the ranges of a header's counts
-record Header (table : List ℕ) : Type 0 where
-  variables-low : leb 1 (variables table) ≡ true
-  variables-high : leb (variables table) 32 ≡ true
-  procedures-low : leb 1 (procedures table) ≡ true
-  procedures-high : leb (procedures table) 16 ≡ true
-  nodes-low : leb 1 (nodes table) ≡ true
-  nodes-high : leb (nodes table) 256 ≡ true
+record Header (program : Program) : Type 0 where
+  variables-low : leb 1 (variables program) ≡ true
+  variables-high : leb (variables program) 32 ≡ true
+  procedures-low : leb 1 (procedures program) ≡ true
+  procedures-high : leb (procedures program) 16 ≡ true
+  nodes-low : leb 1 (nodes program) ≡ true
+  nodes-high : leb (nodes program) 256 ≡ true
 
-header : (table : List ℕ) → headerFits table ≡ true → Header table
+header : (table : List ℕ) → headerFits table ≡ true → Header (decode table)
 unfolding headerFits
 header table e =
     let one = eqb (edition table) 1 in
-    let v1 = leb 1 (variables table) in
-    let v2 = leb (variables table) 32 in
-    let p1 = leb 1 (procedures table) in
-    let p2 = leb (procedures table) 16 in
-    let n1 = leb 1 (nodes table) in
-    let n2 = leb (nodes table) 256 in
+    let v1 = leb 1 (variables (decode table)) in
+    let v2 = leb (variables (decode table)) 32 in
+    let p1 = leb 1 (procedures (decode table)) in
+    let p2 = leb (procedures (decode table)) 16 in
+    let n1 = leb 1 (nodes (decode table)) in
+    let n2 = leb (nodes (decode table)) 256 in
     let seven = both-left (one && v1 && v2 && p1 && p2 && n1 && n2) (eqb (wordAt table 0 % 2 ^ 8) 0) e in
     let six = both-left (one && v1 && v2 && p1 && p2 && n1) n2 seven in
     let five = both-left (one && v1 && v2 && p1 && p2) n1 six in
@@ -130,59 +142,89 @@ header table e =
       nodes-high = both-right (one && v1 && v2 && p1 && p2 && n1) n2 seven;
     }
 
-pub built : (table : List ℕ) → wellBuilt table ≡ Accepted → Formed table
+pub header-word : (table : List ℕ) → headerFits table ≡ true → (edition table ≡ 1) × (wordAt table 0 % 2 ^ 8 ≡ 0)
+unfolding headerFits
+header-word table e =
+    let one = eqb (edition table) 1 in
+    let v1 = leb 1 (variables (decode table)) in
+    let v2 = leb (variables (decode table)) 32 in
+    let p1 = leb 1 (procedures (decode table)) in
+    let p2 = leb (procedures (decode table)) 16 in
+    let n1 = leb 1 (nodes (decode table)) in
+    let n2 = leb (nodes (decode table)) 256 in
+    let low = eqb (wordAt table 0 % 2 ^ 8) 0 in
+    let seven = both-left (one && v1 && v2 && p1 && p2 && n1 && n2) low e in
+    let six = both-left (one && v1 && v2 && p1 && p2 && n1) n2 seven in
+    let five = both-left (one && v1 && v2 && p1 && p2) n1 six in
+    let four = both-left (one && v1 && v2 && p1) p2 five in
+    let three = both-left (one && v1 && v2) p1 four in
+    let first = both-left one v1 (both-left (one && v1) v2 three) in
+    (eqb-true _ _ first, eqb-true _ _ (both-right (one && v1 && v2 && p1 && p2 && n1 && n2) low e))
+
+pub built : (table : List ℕ) → wellBuilt table ≡ Accepted → Formed (decode table)
 unfolding procedureFits nodeFits usedOnce expressionFits statementFits calledBelow
 built table e =
     let q : Passes table = passes table e in
-    let counts : Header table = header table (q .header) in
-    let past : (n : ℕ) → (n < nodes table → ⊥) → nodes table ≤ n = λ n m. omega arith in
+    let counts : Header (decode table) = header table (q .header) in
+    let past : (n : ℕ) → (n < nodes (decode table) → ⊥) → nodes (decode table) ≤ n = λ n m. omega arith in
     record {
-      variables-low = leb-true 1 (variables table) (counts .variables-low);
-      variables-high = leb-true (variables table) 32 (counts .variables-high);
-      procedures-low = leb-true 1 (procedures table) (counts .procedures-low);
-      procedures-high = leb-true (procedures table) 16 (counts .procedures-high);
-      nodes-low = leb-true 1 (nodes table) (counts .nodes-low);
-      nodes-high = leb-true (nodes table) 256 (counts .nodes-high);
-      sized = q .sized;
+      variables-low = leb-true 1 (variables (decode table)) (counts .variables-low);
+      variables-high = leb-true (variables (decode table)) 32 (counts .variables-high);
+      procedures-low = leb-true 1 (procedures (decode table)) (counts .procedures-low);
+      procedures-high = leb-true (procedures (decode table)) 16 (counts .procedures-high);
+      nodes-low = leb-true 1 (nodes (decode table)) (counts .nodes-low);
+      nodes-high = leb-true (nodes (decode table)) 256 (counts .nodes-high);
+      past = node-past table (q .sized);
       body-below = λ p l.
-          ltb-true (body table p) (nodes table)
-          (both-right (eqb (procedureWord table p % 2 ^ 23) 0) (ltb (body table p) (nodes table)) (q .procedure p l));
+          ltb-true (body (decode table) p) (nodes (decode table))
+          (both-right (eqb (procedureWord table p % 2 ^ 23) 0) (ltb (body (decode table) p) (nodes (decode table))) (q .procedure p l));
       body-statement = q .statement;
       known = q .known;
       expression-fits = λ n.
-          elim (decLt n (nodes table)) [
+          elim (decLt n (nodes (decode table))) [
             | yes l ↦
-                both-left (expressionFits table n (expressionAt table n)) (statementFits table n (statementAt table n))
+                both-left (expressionFits (decode table) n (expressionAt (decode table) n)) (statementFits (decode table) n (statementAt (decode table) n))
                 (q .fits n l)
-            | no m ↦ rw (expression-past table (q .sized) n (past n m))
+            | no m ↦ rw (expression-blank (decode table) n (node-past table (q .sized) n (past n m)))
           ];
       statement-fits = λ n.
-          elim (decLt n (nodes table)) [
+          elim (decLt n (nodes (decode table))) [
             | yes l ↦
-                both-right (expressionFits table n (expressionAt table n)) (statementFits table n (statementAt table n))
+                both-right (expressionFits (decode table) n (expressionAt (decode table) n)) (statementFits (decode table) n (statementAt (decode table) n))
                 (q .fits n l)
-            | no m ↦ rw (statement-past table (q .sized) n (past n m))
+            | no m ↦ rw (statement-blank (decode table) n (node-past table (q .sized) n (past n m)))
           ];
-      used-once = λ n l. eqb-true (occurrences n (uses table)) 1 (q .once n l);
+      used-once = λ n l. eqb-true (occurrences n (uses (decode table))) 1 (q .once n l);
       called-below = λ n.
-          elim (decLt n (nodes table)) [
+          elim (decLt n (nodes (decode table))) [
             | yes l ↦ q .called n l
-            | no m ↦ rw (statement-past table (q .sized) n (past n m))
+            | no m ↦ rw (statement-blank (decode table) n (node-past table (q .sized) n (past n m)))
           ];
     }
 
-pub formed : (table : List ℕ) → wellFormed table ≡ Accepted → Formed table
-unfolding wellFormed
-formed table e = built table (then-first (wellBuilt table) (question26 table) e)
+pub built-exact : (table : List ℕ) → wellBuilt table ≡ Accepted → Exact table
+built-exact table e = passes table e .sized
 
-pub enclosed : (table : List ℕ) → wellFormed table ≡ Accepted → Enclosed table
+pub formed : (table : List ℕ) → wellFormed table ≡ Accepted → Formed (decode table)
+unfolding wellFormed
+formed table e = built table (then-first (wellBuilt table) (question26 (decode table)) e)
+
+pub well-passes : (table : List ℕ) → wellFormed table ≡ Accepted → Passes table
+unfolding wellFormed
+well-passes table e = passes table (then-first (wellBuilt table) (question26 (decode table)) e)
+
+pub exact : (table : List ℕ) → wellFormed table ≡ Accepted → Exact table
+unfolding wellFormed
+exact table e = built-exact table (then-first (wellBuilt table) (question26 (decode table)) e)
+
+pub enclosed : (table : List ℕ) → wellFormed table ≡ Accepted → Enclosed (decode table)
 unfolding wellFormed leaveEnclosed
 enclosed table e n s =
-    let passed = each-passed 26 (nodes table) (leaveEnclosed table) (then-rest (wellBuilt table) (question26 table) e) in
-    elim (decLt n (nodes table)) [
-      | yes l ↦ ltb-true (nearestLoop table n) (nodes table) (rw s at (passed n l))
+    let passed = each-passed 26 (nodes (decode table)) (leaveEnclosed (decode table)) (then-rest (wellBuilt table) (question26 (decode table)) e) in
+    elim (decLt n (nodes (decode table))) [
+      | yes l ↦ ltb-true (nearestLoop (decode table) n) (nodes (decode table)) (rw s at (passed n l))
       | no m ↦
-          let past = statement-past table (formed table e .sized) n (omega arith) in
+          let past = statement-past (decode table) (formed table e) n (omega arith) in
           let z : _≡_ {A = ℕ} 0 1 = cc in
           absurd (omega arith)
     ]

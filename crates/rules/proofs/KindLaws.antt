@@ -1,6 +1,6 @@
 -- What a node is, by its kind, and what a well-formed table says of its fields.
 use mathlib.Core.Bool.{true, false, _&&_}
-use mathlib.Core.List.{List, [], _∷_}
+use mathlib.Core.List.{[], _∷_}
 use mathlib.Core.Path.{_≡_, refl, sym, _∙_, ap}
 use Prim.Native.Nat.{ℕ, zero, suc, _+_, _-_, _≤_, _<_}
 use native.Mathlib.Decide.{decLt}
@@ -9,7 +9,7 @@ use lib.Dec.{ltb}
 use lib.ListN.{getD}
 use borrow.Author.Tests.{ltb-true}
 use Rattle.rules.specs.declared.Node.{Node}
-use Rattle.rules.specs.Table.{firstStatement, gatheredAreas, variables, procedures, nodeAt}
+use Rattle.rules.specs.Table.{Program, firstStatement, gatheredAreas, variables, procedures, nodeAt}
 use Rattle.rules.specs.Table.{expressionOf, statementOf, expressionAt, statementAt}
 use Rattle.rules.specs.Table.{Operator, sum, difference, product, quotient, less, equal, both}
 use Rattle.rules.specs.Table.{Expression, variable, door, slot, operation}
@@ -129,34 +129,34 @@ no-leave m other =
     (λ e. refl) (λ e. refl) (λ e. absurd (other e)) refl
 
 -- the fields of a node m that a well-formed table has at n
-module _ (table : List ℕ) (formed : Formed table) (n : ℕ) (m : Node) (here : m ≡ nodeAt table n) where
-  pub expression-here : {e : Expression} → expressionOf m ≡ e → expressionAt table n ≡ e
+module _ (program : Program) (formed : Formed program) (n : ℕ) (m : Node) (here : m ≡ nodeAt program n) where
+  pub expression-here : {e : Expression} → expressionOf m ≡ e → expressionAt program n ≡ e
   unfolding expressionAt
   expression-here t = ap expressionOf (sym here) ∙ t
 
-  pub statement-here : {s : Statement} → statementOf m ≡ s → statementAt table n ≡ s
+  pub statement-here : {s : Statement} → statementOf m ≡ s → statementAt program n ≡ s
   unfolding statementAt
   statement-here t = ap statementOf (sym here) ∙ t
 
-  expression-fits : {e : Expression} → expressionOf m ≡ e → expressionFits table n e ≡ true
+  expression-fits : {e : Expression} → expressionOf m ≡ e → expressionFits program n e ≡ true
   expression-fits t = rw (expression-here t) at (formed .expression-fits n)
 
-  statement-fits : {s : Statement} → statementOf m ≡ s → statementFits table n s ≡ true
+  statement-fits : {s : Statement} → statementOf m ≡ s → statementFits program n s ≡ true
   statement-fits t = rw (statement-here t) at (formed .statement-fits n)
 
-  pub variable-field : m .kind ≡ 1 → m .a < variables table
+  pub variable-field : m .kind ≡ 1 → m .a < variables program
   unfolding expressionFits
-  variable-field e = ltb-true (m .a) (variables table) (expression-fits (variable-of m e))
+  variable-field e = ltb-true (m .a) (variables program) (expression-fits (variable-of m e))
 
-  operands : 6 ≤ m .kind → m .kind ≤ 12 → (expressionPart table n (m .a) && expressionPart table n (m .b)) ≡ true
+  operands : 6 ≤ m .kind → m .kind ≤ 12 → (expressionPart program n (m .a) && expressionPart program n (m .b)) ≡ true
   unfolding expressionFits
   operands h k = expression-fits (operation-of m h k)
 
-  pub slot-fields : m .kind ≡ 5 → (expressionPart table n (m .a) ≡ true) × (m .b < gatheredAreas)
+  pub slot-fields : m .kind ≡ 5 → (expressionPart program n (m .a) ≡ true) × (m .b < gatheredAreas)
   unfolding expressionFits
-  slot-fields e = area-fields table n (m .a) (m .b) (expression-fits (slot-of m e))
+  slot-fields e = area-fields program n (m .a) (m .b) (expression-fits (slot-of m e))
 
-  pub first-part : 4 ≤ m .kind → m .kind ≤ 12 → expressionPart table n (m .a) ≡ true
+  pub first-part : 4 ≤ m .kind → m .kind ≤ 12 → expressionPart program n (m .a) ≡ true
   unfolding expressionFits
   first-part h k =
       elim (decLt (m .kind) 6) [
@@ -165,77 +165,77 @@ module _ (table : List ℕ) (formed : Formed table) (n : ℕ) (m : Node) (here :
               | yes l′ ↦ expression-fits (door-of m (omega arith))
               | no l′ ↦ slot-fields (omega arith) .0
             ]
-        | no l ↦ both-left (expressionPart table n (m .a)) (expressionPart table n (m .b)) (operands (omega arith) k)
+        | no l ↦ both-left (expressionPart program n (m .a)) (expressionPart program n (m .b)) (operands (omega arith) k)
       ]
 
-  pub second-part : 6 ≤ m .kind → m .kind ≤ 12 → expressionPart table n (m .b) ≡ true
-  second-part h k = both-right (expressionPart table n (m .a)) (expressionPart table n (m .b)) (operands h k)
+  pub second-part : 6 ≤ m .kind → m .kind ≤ 12 → expressionPart program n (m .b) ≡ true
+  second-part h k = both-right (expressionPart program n (m .a)) (expressionPart program n (m .b)) (operands h k)
 
-  pub assign-fields : m .kind ≡ 17 → (m .a < variables table) × (expressionPart table n (m .b) ≡ true)
+  pub assign-fields : m .kind ≡ 17 → (m .a < variables program) × (expressionPart program n (m .b) ≡ true)
   unfolding statementFits
   assign-fields e =
-      let low = ltb (m .a) (variables table) in
-      let value = expressionPart table n (m .b) in
+      let low = ltb (m .a) (variables program) in
+      let value = expressionPart program n (m .b) in
       let all : (low && value) ≡ true = statement-fits (assign-of m e) in
-      (ltb-true (m .a) (variables table) (both-left low value all), both-right low value all)
+      (ltb-true (m .a) (variables program) (both-left low value all), both-right low value all)
 
-  pub sequence-fields : m .kind ≡ 18 → (statementPart table n (m .a) ≡ true) × (statementPart table n (m .b) ≡ true)
+  pub sequence-fields : m .kind ≡ 18 → (statementPart program n (m .a) ≡ true) × (statementPart program n (m .b) ≡ true)
   unfolding statementFits
   sequence-fields e =
-      let first = statementPart table n (m .a) in
-      let second = statementPart table n (m .b) in
+      let first = statementPart program n (m .a) in
+      let second = statementPart program n (m .b) in
       let all : (first && second) ≡ true = statement-fits (sequence-of m e) in
       (both-left first second all, both-right first second all)
 
   pub branch-fields : m .kind ≡ 19
-      → (expressionPart table n (m .a) ≡ true)
-      × (statementPart table n (m .b) ≡ true)
-      × (statementPart table n (m .c) ≡ true)
+      → (expressionPart program n (m .a) ≡ true)
+      × (statementPart program n (m .b) ≡ true)
+      × (statementPart program n (m .c) ≡ true)
   unfolding statementFits
   branch-fields e =
-      let test = expressionPart table n (m .a) in
-      let so = statementPart table n (m .b) in
-      let otherwise = statementPart table n (m .c) in
+      let test = expressionPart program n (m .a) in
+      let so = statementPart program n (m .b) in
+      let otherwise = statementPart program n (m .c) in
       let all : (test && so && otherwise) ≡ true = statement-fits (branch-of m e) in
       let front = both-left (test && so) otherwise all in
       (both-left test so front, both-right test so front, both-right (test && so) otherwise all)
 
-  pub loop-fields : m .kind ≡ 20 → (expressionPart table n (m .a) ≡ true) × (statementPart table n (m .b) ≡ true)
+  pub loop-fields : m .kind ≡ 20 → (expressionPart program n (m .a) ≡ true) × (statementPart program n (m .b) ≡ true)
   unfolding statementFits
   loop-fields e =
-      let test = expressionPart table n (m .a) in
-      let again = statementPart table n (m .b) in
+      let test = expressionPart program n (m .a) in
+      let again = statementPart program n (m .b) in
       let all : (test && again) ≡ true = statement-fits (loop-of m e) in
       (both-left test again all, both-right test again all)
 
-  pub call-field : m .kind ≡ 21 → m .a < procedures table
+  pub call-field : m .kind ≡ 21 → m .a < procedures program
   unfolding statementFits
-  call-field e = ltb-true (m .a) (procedures table) (statement-fits (call-of m e))
+  call-field e = ltb-true (m .a) (procedures program) (statement-fits (call-of m e))
 
-  pub latch-fields : m .kind ≡ 22 → (expressionPart table n (m .a) ≡ true) × (expressionPart table n (m .b) ≡ true)
+  pub latch-fields : m .kind ≡ 22 → (expressionPart program n (m .a) ≡ true) × (expressionPart program n (m .b) ≡ true)
   unfolding statementFits
   latch-fields e =
-      let place = expressionPart table n (m .a) in
-      let value = expressionPart table n (m .b) in
+      let place = expressionPart program n (m .a) in
+      let value = expressionPart program n (m .b) in
       let all : (place && value) ≡ true = statement-fits (latch-of m e) in
       (both-left place value all, both-right place value all)
 
   pub broadcast-fields : m .kind ≡ 24
-      → (m .a < variables table)
-      × (expressionPart table n (m .b) ≡ true)
-      × (expressionPart table n (m .c) ≡ true)
+      → (m .a < variables program)
+      × (expressionPart program n (m .b) ≡ true)
+      × (expressionPart program n (m .c) ≡ true)
   unfolding statementFits collectiveFits
   broadcast-fields e =
-      let low = ltb (m .a) (variables table) in
-      let value = expressionPart table n (m .b) in
-      let source = expressionPart table n (m .c) in
+      let low = ltb (m .a) (variables program) in
+      let value = expressionPart program n (m .b) in
+      let source = expressionPart program n (m .c) in
       let all : (low && value && source) ≡ true = statement-fits (broadcast-of m e) in
       let front = both-left (low && value) source all in (
-        ltb-true (m .a) (variables table) (both-left low value front),
+        ltb-true (m .a) (variables program) (both-left low value front),
         both-right low value front,
         both-right (low && value) source all,
       )
 
-  pub exchange-fields : m .kind ≡ 25 → (expressionPart table n (m .a) ≡ true) × (m .b < gatheredAreas)
+  pub exchange-fields : m .kind ≡ 25 → (expressionPart program n (m .a) ≡ true) × (m .b < gatheredAreas)
   unfolding statementFits collectiveFits
-  exchange-fields e = area-fields table n (m .a) (m .b) (statement-fits (exchange-of m e))
+  exchange-fields e = area-fields program n (m .a) (m .b) (statement-fits (exchange-of m e))

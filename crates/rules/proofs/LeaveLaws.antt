@@ -10,6 +10,7 @@ use native.Mathlib.Omega.{arith}
 use lib.Dec.{ltb}
 use borrow.Author.Tests.{leb-true, ne-eqb}
 use Rattle.rules.specs.Judgement.{holdsLeave}
+use Rattle.rules.specs.Table.{Program}
 use Rattle.rules.specs.Table.{variables, procedures, nodes, body, nodeAt, statementOf, expressionAt, statementAt, isLeave}
 use Rattle.rules.specs.Table.{Expression, constant, variable, ownNumber, processCount, door, slot, operation}
 use Rattle.rules.specs.Table.{Statement, nothing, assign, sequence, branch, loop, call, latch, collective, leave}
@@ -19,7 +20,8 @@ use Rattle.rules.specs.WellFormed.{expressionParts, collectiveParts, sta
 use Rattle.rules.specs.WellFormed.{openParts, nearestLoop}
 use Rattle.rules.proofs.AnswerLaws.{both-left, both-right}
 use Rattle.rules.proofs.Formed.{Formed, Enclosed, statement-past}
-use Rattle.rules.proofs.LoopLaws.{In, OpenPart, counted-append, part-low, openly-self, openly-part}
+use Rattle.rules.proofs.AnywhereLaws.{In}
+use Rattle.rules.proofs.LoopLaws.{OpenPart, counted-append, part-low, openly-self, openly-part}
 use Rattle.rules.proofs.LoopLaws.{named-below, nearest-part, nearest-body}
 use Rattle.rules.proofs.ValueLaws.{expression-part-sort, area-fields}
 
@@ -50,158 +52,158 @@ joined-in list a (suc n) h =
       | no m ↦ let (k, l, i) = joined-in list a n (omega arith) in (k, omega arith, i)
     ]
 
-module _ (table : List ℕ) (n : ℕ) where
+module _ (program : Program) (n : ℕ) where
   -- the parts of an expression are expressions
-  expression-sort : (e : Expression) (a : ℕ) → expressionFits table n e ≡ true → In a (expressionParts e)
-      → isExpression table a ≡ true
+  expression-sort : (e : Expression) (a : ℕ) → expressionFits program n e ≡ true → In a (expressionParts e)
+      → isExpression program a ≡ true
   unfolding expressionFits expressionParts
   expression-sort (constant v) a h i = absurd i
   expression-sort (variable v) a h i = absurd i
   expression-sort ownNumber a h i = absurd i
   expression-sort processCount a h i = absurd i
-  expression-sort (door x) a h (inl e) = rw e (expression-part-sort table n x h)
+  expression-sort (door x) a h (inl e) = rw e (expression-part-sort program n x h)
   expression-sort (door x) a h (inr i) = absurd i
-  expression-sort (slot x r) a h (inl e) = rw e (expression-part-sort table n x (area-fields table n x r h .0))
+  expression-sort (slot x r) a h (inl e) = rw e (expression-part-sort program n x (area-fields program n x r h .0))
   expression-sort (slot x r) a h (inr i) = absurd i
   expression-sort (operation o x y) a h (inl e) =
-      rw e (expression-part-sort table n x (both-left (expressionPart table n x) (expressionPart table n y) h))
+      rw e (expression-part-sort program n x (both-left (expressionPart program n x) (expressionPart program n y) h))
   expression-sort (operation o x y) a h (inr (inl e)) =
-      rw e (expression-part-sort table n y (both-right (expressionPart table n x) (expressionPart table n y) h))
+      rw e (expression-part-sort program n y (both-right (expressionPart program n x) (expressionPart program n y) h))
   expression-sort (operation o x y) a h (inr (inr i)) = absurd i
 
-  collective-sort : (k : Collective) (a : ℕ) → collectiveFits table n k ≡ true → In a (collectiveParts k)
-      → isExpression table a ≡ true
+  collective-sort : (k : Collective) (a : ℕ) → collectiveFits program n k ≡ true → In a (collectiveParts k)
+      → isExpression program a ≡ true
   unfolding collectiveFits collectiveParts
   collective-sort barrier a h i = absurd i
   collective-sort (broadcast x y z) a h (inl e) =
       rw e
-      (expression-part-sort table n y
-      (both-right (ltb x (variables table)) (expressionPart table n y)
-      (both-left (ltb x (variables table) && expressionPart table n y) (expressionPart table n z) h)))
+      (expression-part-sort program n y
+      (both-right (ltb x (variables program)) (expressionPart program n y)
+      (both-left (ltb x (variables program) && expressionPart program n y) (expressionPart program n z) h)))
   collective-sort (broadcast x y z) a h (inr (inl e)) =
       rw e
-      (expression-part-sort table n z
-      (both-right (ltb x (variables table) && expressionPart table n y) (expressionPart table n z) h))
+      (expression-part-sort program n z
+      (both-right (ltb x (variables program) && expressionPart program n y) (expressionPart program n z) h))
   collective-sort (broadcast x y z) a h (inr (inr i)) = absurd i
-  collective-sort (exchange x r) a h (inl e) = rw e (expression-part-sort table n x (area-fields table n x r h .0))
+  collective-sort (exchange x r) a h (inl e) = rw e (expression-part-sort program n x (area-fields program n x r h .0))
   collective-sort (exchange x r) a h (inr i) = absurd i
 
   -- a part of a statement is an expression, stands in the same while, or is a while's body
   abbrev pub Sorted : Statement → ℕ → Type 0
-  Sorted s a = (isExpression table a ≡ true) ⊎ (In a (openParts s) ⊎ ((c : ℕ) × (s ≡ loop c a)))
+  Sorted s a = (isExpression program a ≡ true) ⊎ (In a (openParts s) ⊎ ((c : ℕ) × (s ≡ loop c a)))
 
-  statement-sort : (s : Statement) (a : ℕ) → statementFits table n s ≡ true → In a (statementParts s) → Sorted s a
+  statement-sort : (s : Statement) (a : ℕ) → statementFits program n s ≡ true → In a (statementParts s) → Sorted s a
   unfolding statementFits statementParts openParts
   statement-sort nothing a h i = absurd i
   statement-sort (assign x y) a h (inl e) =
-      inl (rw e (expression-part-sort table n y (both-right (ltb x (variables table)) (expressionPart table n y) h)))
+      inl (rw e (expression-part-sort program n y (both-right (ltb x (variables program)) (expressionPart program n y) h)))
   statement-sort (assign x y) a h (inr i) = absurd i
   statement-sort (sequence x y) a h i = inr (inl i)
   statement-sort (branch x y z) a h (inl e) =
       inl
       (rw e
-      (expression-part-sort table n x
-      (both-left (expressionPart table n x) (statementPart table n y)
-      (both-left (expressionPart table n x && statementPart table n y) (statementPart table n z) h))))
+      (expression-part-sort program n x
+      (both-left (expressionPart program n x) (statementPart program n y)
+      (both-left (expressionPart program n x && statementPart program n y) (statementPart program n z) h))))
   statement-sort (branch x y z) a h (inr i) = inr (inl i)
   statement-sort (loop x y) a h (inl e) =
-      inl (rw e (expression-part-sort table n x (both-left (expressionPart table n x) (statementPart table n y) h)))
+      inl (rw e (expression-part-sort program n x (both-left (expressionPart program n x) (statementPart program n y) h)))
   statement-sort (loop x y) a h (inr (inl e)) = inr (inr (x, ap (loop x) (sym e)))
   statement-sort (loop x y) a h (inr (inr i)) = absurd i
   statement-sort (call p) a h i = absurd i
   statement-sort (latch x y) a h (inl e) =
-      inl (rw e (expression-part-sort table n x (both-left (expressionPart table n x) (expressionPart table n y) h)))
+      inl (rw e (expression-part-sort program n x (both-left (expressionPart program n x) (expressionPart program n y) h)))
   statement-sort (latch x y) a h (inr (inl e)) =
-      inl (rw e (expression-part-sort table n y (both-right (expressionPart table n x) (expressionPart table n y) h)))
+      inl (rw e (expression-part-sort program n y (both-right (expressionPart program n x) (expressionPart program n y) h)))
   statement-sort (latch x y) a h (inr (inr i)) = absurd i
   statement-sort (collective k) a h i = inl (collective-sort k a h i)
   statement-sort leave a h i = absurd i
 
   -- an expression reads as nothing
-  pub expression-nothing : isExpression table n ≡ true → statementAt table n ≡ nothing
+  pub expression-nothing : isExpression program n ≡ true → statementAt program n ≡ nothing
   unfolding isExpression statementAt statementOf
   expression-nothing e =
-      let low : nodeAt table n .kind - 16 ≡ 0 = omega (arith, leb-true (nodeAt table n .kind) 12 e) in
+      let low : nodeAt program n .kind - 16 ≡ 0 = omega (arith, leb-true (nodeAt program n .kind) 12 e) in
       rw low
 
-module _ (table : List ℕ) (formed : Formed table) where
+module _ (program : Program) (formed : Formed program) where
   -- a node is a part of a node or a procedure's body
-  pub user : (n : ℕ) → n < nodes table
-      → ((m : ℕ) × In n (partsAt table m)) ⊎ ((p : ℕ) × (p < procedures table) × (n ≡ body table p))
+  pub user : (n : ℕ) → n < nodes program
+      → ((m : ℕ) × In n (partsAt program m)) ⊎ ((p : ℕ) × (p < procedures program) × (n ≡ body program p))
   unfolding uses
   user n l =
       let once = formed .used-once n l in
-      let split = counted-append (joined (partsAt table) (nodes table)) (joined (λ p. body table p ∷ []) (procedures table)) n in
-      elim (decLt 0 (occurrences n (joined (partsAt table) (nodes table)))) [
+      let split = counted-append (joined (partsAt program) (nodes program)) (joined (λ p. body program p ∷ []) (procedures program)) n in
+      elim (decLt 0 (occurrences n (joined (partsAt program) (nodes program)))) [
         | yes some ↦
-            let (m, b, i) = joined-in (partsAt table) n (nodes table) (omega arith) in
+            let (m, b, i) = joined-in (partsAt program) n (nodes program) (omega arith) in
             inl (m, i)
         | no none ↦
-            let (p, b, i) = joined-in (λ p. body table p ∷ []) n (procedures table) (omega arith) in
-            inr (p, b, ⊎-elim (λ (e : n ≡ body table p). e) (λ (z : ⊥). absurd z) i)
+            let (p, b, i) = joined-in (λ p. body program p ∷ []) n (procedures program) (omega arith) in
+            inr (p, b, ⊎-elim (λ (e : n ≡ body program p). e) (λ (z : ⊥). absurd z) i)
       ]
 
   -- a part is an expression, stands in the same while, or is a while's body
-  pub part-sorted : (m n : ℕ) → In n (partsAt table m) → Sorted table m (statementAt table m) n
+  pub part-sorted : (m n : ℕ) → In n (partsAt program m) → Sorted program m (statementAt program m) n
   unfolding partsAt
   part-sorted m n i =
       ⊎-elim
-      (λ (h : In n (expressionParts (expressionAt table m))).
-      inl (expression-sort table m (expressionAt table m) n (formed .expression-fits m) h))
-      (λ (h : In n (statementParts (statementAt table m))).
-      statement-sort table m (statementAt table m) n (formed .statement-fits m) h)
-      (in-append (expressionParts (expressionAt table m)) (statementParts (statementAt table m)) n i)
+      (λ (h : In n (expressionParts (expressionAt program m))).
+      inl (expression-sort program m (expressionAt program m) n (formed .expression-fits m) h))
+      (λ (h : In n (statementParts (statementAt program m))).
+      statement-sort program m (statementAt program m) n (formed .statement-fits m) h)
+      (in-append (expressionParts (expressionAt program m)) (statementParts (statementAt program m)) n i)
 
   -- and one that is a statement stands in the same while, or is a while's body
-  part-sort : (m n : ℕ) → statementAt table n ≢ nothing → In n (partsAt table m)
-      → OpenPart table formed n m ⊎ ((c : ℕ) × (statementAt table m ≡ loop c n))
+  part-sort : (m n : ℕ) → statementAt program n ≢ nothing → In n (partsAt program m)
+      → OpenPart program formed n m ⊎ ((c : ℕ) × (statementAt program m ≡ loop c n))
   part-sort m n some i =
       ⊎-elim
-      (λ (e : isExpression table n ≡ true). absurd (some (expression-nothing table n e)))
-      (λ (e : In n (openParts (statementAt table m)) ⊎ ((c : ℕ) × (statementAt table m ≡ loop c n))). e)
+      (λ (e : isExpression program n ≡ true). absurd (some (expression-nothing program n e)))
+      (λ (e : In n (openParts (statementAt program m)) ⊎ ((c : ℕ) × (statementAt program m ≡ loop c n))). e)
       (part-sorted m n i)
 
   open-some : (s : Statement) (a : ℕ) → In a (openParts s) → s ≢ nothing
   unfolding openParts
   open-some s a i e = subst (λ t. In a (openParts t)) e i
 
-  held-part : (m n : ℕ) → OpenPart table formed n m → holdsLeave table (statementAt table) n ≡ true → holdsLeave table (statementAt table) m ≡ true
+  held-part : (m n : ℕ) → OpenPart program formed n m → holdsLeave program (statementAt program) n ≡ true → holdsLeave program (statementAt program) m ≡ true
   unfolding holdsLeave
-  held-part m n i h = openly-part table formed (λ k. isLeave (statementAt table k)) m n i h
+  held-part m n i h = openly-part program formed (λ k. isLeave (statementAt program k)) m n i h
 
-  module _ (bodies : (p : ℕ) → p < procedures table → holdsLeave table (statementAt table) (body table p) ≡ false) where
+  module _ (bodies : (p : ℕ) → p < procedures program → holdsLeave program (statementAt program) (body program p) ≡ false) where
     -- up from a statement that holds a leave
-    climbed : (k n : ℕ) → nodes table ≤ n + k → n < nodes table → statementAt table n ≢ nothing → holdsLeave table (statementAt table) n ≡ true
-        → nearestLoop table n < nodes table
+    climbed : (k n : ℕ) → nodes program ≤ n + k → n < nodes program → statementAt program n ≢ nothing → holdsLeave program (statementAt program) n ≡ true
+        → nearestLoop program n < nodes program
     climbed zero n far l some held = absurd (omega arith)
     climbed (suc k) n far l some held =
         ⊎-elim
-        (λ (found : (m : ℕ) × In n (partsAt table m)).
+        (λ (found : (m : ℕ) × In n (partsAt program m)).
         let (m, i) = found in
-        let low = part-low table formed m n i in
-        let high = named-below table formed m n i in
+        let low = part-low program formed m n i in
+        let high = named-below program formed m n i in
         ⊎-elim
-        (λ (o : OpenPart table formed n m).
-        rw (nearest-part table formed m n o)
-        (climbed k m (omega arith) high (open-some (statementAt table m) n o) (held-part m n o held)))
-        (λ (b : (c : ℕ) × (statementAt table m ≡ loop c n)). rw (nearest-body table formed m (b .0) n (b .1)) high)
+        (λ (o : OpenPart program formed n m).
+        rw (nearest-part program formed m n o)
+        (climbed k m (omega arith) high (open-some (statementAt program m) n o) (held-part m n o held)))
+        (λ (b : (c : ℕ) × (statementAt program m ≡ loop c n)). rw (nearest-body program formed m (b .0) n (b .1)) high)
         (part-sort m n some i))
-        (λ (found : (p : ℕ) × (p < procedures table) × (n ≡ body table p)).
+        (λ (found : (p : ℕ) × (p < procedures program) × (n ≡ body program p)).
         let (p, b, e) = found in
-        let none : holdsLeave table (statementAt table) n ≡ false = ap (holdsLeave table (statementAt table)) e ∙ bodies p b in
+        let none : holdsLeave program (statementAt program) n ≡ false = ap (holdsLeave program (statementAt program)) e ∙ bodies p b in
         let z : _≡_ {A = ℕ} 0 1 = cc in
         absurd (omega arith))
         (user n l)
 
-    pub bodies-enclosed : Enclosed table
+    pub bodies-enclosed : Enclosed program
     unfolding holdsLeave
     bodies-enclosed n s =
-        elim (decLt n (nodes table)) [
+        elim (decLt n (nodes program)) [
           | yes l ↦
-              climbed (nodes table) n (omega arith) l (λ e. let z : _≡_ {A = ℕ} 0 1 = cc in omega arith)
-              (openly-self table formed (λ k. isLeave (statementAt table k)) n (rw s))
+              climbed (nodes program) n (omega arith) l (λ e. let z : _≡_ {A = ℕ} 0 1 = cc in omega arith)
+              (openly-self program formed (λ k. isLeave (statementAt program k)) n (rw s))
           | no m ↦
-              let past = statement-past table (formed .sized) n (omega arith) in
+              let past = statement-past program formed n (omega arith) in
               let z : _≡_ {A = ℕ} 0 1 = cc in
               absurd (omega arith)
         ]

@@ -6,6 +6,7 @@ pub mod Formed
 pub mod KindLaws
 pub mod ValueLaws
 pub mod FixedLaws
+pub mod AnywhereLaws
 pub mod PartLaws
 pub mod SizeLaws
 pub mod LoopLaws
@@ -42,3 +43,7 @@ pub mod Together
 pub mod TogetherStep
 pub mod Agreement
 pub mod ServedRun
+pub mod EncodingLaws
+pub mod ReencodingLaws
+pub mod WrittenLaws
+pub mod AlikeLaws

@@ -12,10 +12,11 @@ use Rattle.rules.proofs.SoundRun.{sound-turn, sound-turns}
 use Rattle.rules.proofs.Stands.{Sound, alive, start-sound}
 use Rattle.rules.proofs.TurnCases.{Running, TurnCases, by-turn}
 use Rattle.rules.proofs.VerdictLaws.{taken-start}
+use Rattle.rules.specs.Table.{decode}
 
 module _ (table : List ℕ) (count : ℕ) where
   abbrev NamesLive : Outcome → Type 0
-  NamesLive outcome = EachLive table (answerNodes (outcome .answer))
+  NamesLive outcome = EachLive (decode table) (answerNodes (outcome .answer))
 
   named-cases : (state roll : List ℕ) (p : ℕ) → Sound table count state roll → TurnCases table count state roll p NamesLive
   unfolding completed
@@ -33,7 +34,7 @@ module _ (table : List ℕ) (count : ℕ) where
             };
       }
     where
-      top-live : Running table count state roll p → live table (top (processAt state p)) ≡ true
+      top-live : Running table count state roll p → live (decode table) (top (processAt state p)) ≡ true
       top-live r = alive table count state roll (now .stands) p (r .below) (r .deep)
 
   named-turns : (turns : List ℕ) (team : Team) → Sound table count (team .state) (team .roll)

@@ -12,9 +12,10 @@ use Rattle.rules.specs.Answers.{_then_}
 use Rattle.rules.specs.Scratch.{formerWords, formerlyChecked, SameAsWith256, AnyScratch, Left, ScratchLeft}
 use Rattle.rules.specs.WellFormed.{wellFormed}
 use Rattle.rules.proofs.TurnCases.{by-test}
+use Rattle.rules.specs.Table.{decode}
 
 enough-checked : (table scratch : List ℕ) → scratchWords ≤ length scratch
-    → checked table scratch ≡ (wellFormed table then judged table)
+    → checked table scratch ≡ (wellFormed table then judged (decode table))
 unfolding checked
 enough-checked table scratch enough = simp (le-leb scratchWords (length scratch) enough)
 

@@ -28,6 +28,7 @@ use Rattle.rules.specs.Step.{processesIn, completed, stepRunning, stepTa
 use Rattle.rules.specs.Step.{teamVerdict, steppedBy, stepped}
 use Rattle.rules.proofs.ChoiceLaws.{first-fails}
 use Rattle.rules.proofs.TurnCases.{by-step}
+use Rattle.rules.specs.Table.{decode}
 
 -- the next process, where one runs
 module _ (roll : List ℕ) (last : ℕ) (some : someRuns roll last ≡ true) where
@@ -51,7 +52,7 @@ busy : (event : Event) → eventNumber event < 4 → (event ≡ Waiting → ⊥)
 busy event l = ((λ e. omega (arith, ap eventNumber e)), (λ e. omega (arith, ap eventNumber e)))
 
 module _ (table state roll : List ℕ) (count p : ℕ) where
-  running-worked : Worked (stepRunning table state roll count p .answer)
+  running-worked : Worked (stepRunning (decode table) state roll count p .answer)
   unfolding completed
   running-worked =
       by-step table count state roll p (Unit {0}) (λ outcome. Worked (outcome .answer))
@@ -63,12 +64,12 @@ module _ (table state roll : List ℕ) (count p : ℕ) where
       })
       tt
 
-  pub taken-worked : statusAt roll p ≡ running → Worked (stepTaken table state roll count p .answer)
+  pub taken-worked : statusAt roll p ≡ running → Worked (stepTaken (decode table) state roll count p .answer)
   unfolding stepTaken
   taken-worked e = rw e running-worked
 
 module _ (table state roll : List ℕ) (p : ℕ) (runs : statusAt roll p ≡ running) where
-  by-verdict : (v : Verdict) (a : Answer) → steppedBy v table state roll p .answer ≡ Taken a → Worked (steppedBy v table state roll p .answer)
+  by-verdict : (v : Verdict) (a : Answer) → steppedBy v (decode table) state roll p .answer ≡ Taken a → Worked (steppedBy v (decode table) state roll p .answer)
   unfolding steppedBy
   by-verdict Accepted a e = taken-worked table state roll (processesIn roll) p runs
   by-verdict (Failed r) a e = let z : _≡_ {A = ℕ} 0 1 = cc in absurd (omega arith)
@@ -78,7 +79,7 @@ module _ (table state roll : List ℕ) (p : ℕ) (runs : statusAt roll p ≡ run
   step-worked a e = by-verdict (stepVerdict table state roll p) a e
 
   -- one that is refused has the refusal of its questions
-  by-refused : (v : Verdict) (r : Refusal) → steppedBy v table state roll p .answer ≡ Refused r → v ≡ Failed r
+  by-refused : (v : Verdict) (r : Refusal) → steppedBy v (decode table) state roll p .answer ≡ Refused r → v ≡ Failed r
   unfolding steppedBy
   by-refused Accepted r e = absurd (rw e at (taken-worked table state roll (processesIn roll) p runs))
   by-refused (Failed s) r e = cc

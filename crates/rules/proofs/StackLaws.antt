@@ -15,7 +15,7 @@ use Rattle.rules.specs.Collective.{gatheredFrom, received}
 use Rattle.rules.specs.Evaluation.{Environment, value, gatheredSlot}
 use Rattle.rules.specs.Process.{latchPlaces, mostProcesses, gatheredAt, latchesAt, depthAt, stackAt, stackPlaces, processWords}
 use Rattle.rules.specs.Process.{depth, top, popped, replaced, pushed, unwound, advanced}
-use Rattle.rules.specs.Table.{Statement, nothing, assign, sequence, branch, loop, call, latch, collective, leave}
+use Rattle.rules.specs.Table.{Program, Statement, nothing, assign, sequence, branch, loop, call, latch, collective, leave}
 use Rattle.rules.specs.Table.{Collective, barrier, broadcast, exchange, gatheredAreas}
 use Rattle.rules.specs.WellFormed.{nearestLoop}
 
@@ -79,20 +79,20 @@ looped-length : (words : List ℕ) (test : Bool) (n : ℕ) → length (cond test
 looped-length words true n = popped-length words
 looped-length words false n = pushed-length words n
 
-pub advanced-length : (table : List ℕ) (env : Environment) (words : List ℕ) (s : Statement)
-    → length (advanced table env words s) ≡ length words
+pub advanced-length : (program : Program) (env : Environment) (words : List ℕ) (s : Statement)
+    → length (advanced program env words s) ≡ length words
 unfolding advanced
-advanced-length table env words nothing = popped-length words
-advanced-length table env words (assign a b) = popped-length (set words a (value table env b)) ∙ simp length-set
-advanced-length table env words (sequence a b) = pushed-length (replaced words b) a ∙ replaced-length words b
-advanced-length table env words (branch a b c) = replaced-length words _
-advanced-length table env words (loop a b) = looped-length words (eqb (value table env a) 0) b
-advanced-length table env words (call p) = replaced-length words _
-advanced-length table env words (latch a b) =
-    popped-length (cond (ltb (value table env a) latchPlaces) (set words (latchesAt + value table env a) (value table env b)) words)
-    ∙ latched-length words (ltb (value table env a) latchPlaces) (latchesAt + value table env a) (value table env b)
-advanced-length table env words (collective k) = refl
-advanced-length table env words leave = unwound-length (nearestLoop table (top words)) (depth words) words
+advanced-length program env words nothing = popped-length words
+advanced-length program env words (assign a b) = popped-length (set words a (value program env b)) ∙ simp length-set
+advanced-length program env words (sequence a b) = pushed-length (replaced words b) a ∙ replaced-length words b
+advanced-length program env words (branch a b c) = replaced-length words _
+advanced-length program env words (loop a b) = looped-length words (eqb (value program env a) 0) b
+advanced-length program env words (call p) = replaced-length words _
+advanced-length program env words (latch a b) =
+    popped-length (cond (ltb (value program env a) latchPlaces) (set words (latchesAt + value program env a) (value program env b)) words)
+    ∙ latched-length words (ltb (value program env a) latchPlaces) (latchesAt + value program env a) (value program env b)
+advanced-length program env words (collective k) = refl
+advanced-length program env words leave = unwound-length (nearestLoop program (top words)) (depth words) words
 
 -- the words below the depth
 

@@ -15,7 +15,7 @@ use Rattle.rules.specs.Collective.{arrivalOf, completedState, releasedRo
 use Rattle.rules.specs.Evaluation.{gatheredSlot}
 use Rattle.rules.specs.Process.{gatheredAt, processAt, eachProcess, environment, top, popped}
 use Rattle.rules.specs.Step.{Outcome, taken, processesIn, stepVerdict, stepRunning, stepTaken, steppedBy, stepped}
-use Rattle.rules.specs.Table.{Collective, barrier, broadcast, exchange, statementAt, onCollective}
+use Rattle.rules.specs.Table.{Program, decode, Collective, barrier, broadcast, exchange, statementAt, onCollective}
 
 -- the temporary: the values of process 0, of process 1, and so on
 unfoldable pub buffer : List ℕ → ℕ → List ℕ
@@ -42,24 +42,24 @@ bufferedArrived state roll count node meeting =
     (taken (Arrived node) (teamStatus roll count) state roll)
 
 -- as `stepRunning`, which has the statements that are no collective
-unfoldable pub bufferedRunning : List ℕ → List ℕ → List ℕ → ℕ → ℕ → Outcome
-bufferedRunning table state roll count p =
-    onCollective (statementAt table (top (processAt state p)))
+unfoldable pub bufferedRunning : Program → List ℕ → List ℕ → ℕ → ℕ → Outcome
+bufferedRunning program state roll count p =
+    onCollective (statementAt program (top (processAt state p)))
     (λ meeting. bufferedArrived state
     (withArrival roll p
-    (arrivalOf table (environment (processAt state p) p count) (top (processAt state p)) meeting))
+    (arrivalOf program (environment (processAt state p) p count) (top (processAt state p)) meeting))
     count (top (processAt state p)) meeting)
-    (stepRunning table state roll count p)
+    (stepRunning program state roll count p)
 
 -- as `steppedBy`, which has the refusals; an idle step is that of `stepTaken`
-unfoldable pub bufferedBy : Verdict → List ℕ → List ℕ → List ℕ → ℕ → Outcome
-bufferedBy Accepted table state roll p =
-    cond (eqb (statusAt roll p) running) (bufferedRunning table state roll (processesIn roll) p)
-    (stepTaken table state roll (processesIn roll) p)
-bufferedBy (Failed r) table state roll p = steppedBy (Failed r) table state roll p
+unfoldable pub bufferedBy : Verdict → Program → List ℕ → List ℕ → ℕ → Outcome
+bufferedBy Accepted program state roll p =
+    cond (eqb (statusAt roll p) running) (bufferedRunning program state roll (processesIn roll) p)
+    (stepTaken program state roll (processesIn roll) p)
+bufferedBy (Failed r) program state roll p = steppedBy (Failed r) program state roll p
 
 unfoldable pub bufferedStep : List ℕ → List ℕ → List ℕ → ℕ → Outcome
-bufferedStep table state roll p = bufferedBy (stepVerdict table state roll p) table state roll p
+bufferedStep table state roll p = bufferedBy (stepVerdict table state roll p) (decode table) state roll p
 
 -- "For every table, state, roll and bank asked for, a turn's answer, words and roll afterwards are those of before, refused
 -- turns too."

@@ -35,6 +35,7 @@ use Rattle.rules.specs.Step
 use Rattle.rules.specs.Step.{stepVerdict, stepped}
 use Rattle.rules.specs.Table
 use Rattle.rules.specs.WellFormed
+use Rattle.rules.specs.Table.{decode}
 
 -- the bytes of a table's words
 bytes : List ℕ → List ℕ
@@ -58,7 +59,7 @@ answer event team = Taken (record { event = event; team = team })
 
 -- opens every definition of the rules, so that a case computes
 opened : ℕ
-unfolding bytes verdict startOn run answer Choice.firstFailing Choice.allBelow Below.below Below.atNode Table.wordAt Table.edition Table.variables Table.procedures Table.nodes Table.flagged Table.procedureWord Table.body Table.effectFlag Table.mainBody Table.unpacked Table.nodeAt Table.expressionOf Table.statementOf Table.expressionAt Table.statementAt WellFormed.headerFits WellFormed.procedureFits WellFormed.isExpression WellFormed.isStatement WellFormed.kindKnown WellFormed.namedFields WellFormed.unnamedZero WellFormed.expressionPart WellFormed.statementPart WellFormed.expressionFits WellFormed.collectiveFits WellFormed.statementFits WellFormed.nodeFits WellFormed.expressionParts WellFormed.collectiveParts WellFormed.statementParts WellFormed.partsAt WellFormed.joined WellFormed.uses WellFormed.occurrences WellFormed.usedOnce WellFormed.someOf WellFormed.inTree WellFormed.calledBelow WellFormed.openParts WellFormed.openly WellFormed.loopAround WellFormed.nearestLoop WellFormed.leaveEnclosed WellFormed.wellBuilt WellFormed.wellFormed Judgement.singleOf Judgement.single Judgement.bothFixed Judgement.fixingOf Judgement.fixing Judgement.neverTaken Judgement.deadIn Judgement.live Judgement.counted Judgement.effectOf Judgement.effect Judgement.holdsLeave Judgement.localIf Judgement.leftLocally Acceptance.ruleOf Acceptance.bodyFlagged Acceptance.judgedBy Acceptance.checked Acceptance.checkedScratch Evaluation.applied Evaluation.valueOf Evaluation.value Process.processAt Process.withProcess Process.eachProcess Process.depth Process.top Process.popped Process.replaced Process.pushed Process.unwound Process.advanced Process.needsPlace Arrivals.statusAt Arrivals.arrivalNode Arrivals.arrivalValue Arrivals.arrivalSource Arrivals.withArrival Arrivals.eachArrival Arrivals.teamStatus Arrivals.allAtOneNode Collective.arrivalOf Collective.gatheredFrom Collective.received Collective.completedState Collective.releasedRoll Start.startSize Start.startVerdict Start.startWords Start.startProcess Start.startState Start.startRoll Start.startedBy Start.started Start.latchesOf Step.processesIn Step.stackFits Step.fieldsZero Step.lackedZero Step.waitFits Step.leaveFits Step.recordFits Step.processFits Step.placeLacked Step.teamVerdict Step.stepVerdict Step.moved Step.completed Step.arrivedAt Step.stepRunning Step.stepTaken Step.steppedBy Step.stepped Run.afterTurns Run.answers Run.collectives Scheduling.passedOver Scheduling.nextProcess Scheduling.serving Scheduling.servedBy Scheduling.served Scheduling.chosen Scheduling.chosenBy Scheduling.chosenIn
+unfolding bytes verdict startOn run answer Choice.firstFailing Choice.allBelow Below.below Below.atNode Table.wordAt Table.edition Table.procedureWord Table.unpacked Table.decode Table.variables Table.procedures Table.nodes Table.flagged Table.body Table.effectFlag Table.nodeAt Table.mainBody Table.expressionOf Table.statementOf Table.expressionAt Table.statementAt WellFormed.headerFits WellFormed.procedureFits WellFormed.isExpression WellFormed.isStatement WellFormed.kindKnown WellFormed.namedFields WellFormed.unnamedZero WellFormed.expressionPart WellFormed.statementPart WellFormed.expressionFits WellFormed.collectiveFits WellFormed.statementFits WellFormed.nodeFits WellFormed.expressionParts WellFormed.collectiveParts WellFormed.statementParts WellFormed.partsAt WellFormed.joined WellFormed.uses WellFormed.occurrences WellFormed.usedOnce WellFormed.someOf WellFormed.anywhere WellFormed.calledBelow WellFormed.openParts WellFormed.loopAround WellFormed.nearestLoop WellFormed.leaveEnclosed WellFormed.wellBuilt WellFormed.wellFormed Judgement.singleOf Judgement.single Judgement.bothFixed Judgement.fixingOf Judgement.fixing Judgement.neverTaken Judgement.deadIn Judgement.live Judgement.counted Judgement.effectOf Judgement.effect Judgement.holdsLeave Judgement.localIf Judgement.leftLocally Acceptance.ruleOf Acceptance.bodyFlagged Acceptance.judgedBy Acceptance.checked Acceptance.checkedScratch Evaluation.applied Evaluation.valueOf Evaluation.value Process.processAt Process.withProcess Process.eachProcess Process.depth Process.top Process.popped Process.replaced Process.pushed Process.unwound Process.advanced Process.needsPlace Arrivals.statusAt Arrivals.arrivalNode Arrivals.arrivalValue Arrivals.arrivalSource Arrivals.withArrival Arrivals.eachArrival Arrivals.teamStatus Arrivals.allAtOneNode Collective.arrivalOf Collective.gatheredFrom Collective.received Collective.completedState Collective.releasedRoll Start.startSize Start.startVerdict Start.startWords Start.startProcess Start.startState Start.startRoll Start.startedBy Start.started Start.latchesOf Step.processesIn Step.stackFits Step.fieldsZero Step.lackedZero Step.waitFits Step.leaveFits Step.recordFits Step.processFits Step.placeLacked Step.teamVerdict Step.stepVerdict Step.moved Step.completed Step.arrivedAt Step.stepRunning Step.stepTaken Step.steppedBy Step.stepped Run.afterTurns Run.answers Run.collectives Scheduling.passedOver Scheduling.nextProcess Scheduling.serving Scheduling.servedBy Scheduling.served Scheduling.chosen Scheduling.chosenBy Scheduling.chosenIn
 opened = 0
 
 -- T1: if own number then barrier else nothing
@@ -252,11 +253,11 @@ door-table k = 0x10420400 ∷ 0 ∷ 0x03800000 ∷ k ∷ 0x20000000 ∷ []
 sevens : Environment
 sevens = record { variable = λ a. 7; gathered = λ i. 7; door = λ i. 7; own = 0; count = 1 }
 
-door-11 : value (bytes (door-table 11)) sevens 1 ≡ 7
+door-11 : value (decode (bytes (door-table 11))) sevens 1 ≡ 7
 unfolding opened door-table sevens
 door-11 = refl
 
-door-12 : value (bytes (door-table 12)) sevens 1 ≡ 0
+door-12 : value (decode (bytes (door-table 12))) sevens 1 ≡ 0
 unfolding opened door-table sevens
 door-12 = refl
 
@@ -264,7 +265,7 @@ door-12 = refl
 division-table : List ℕ
 division-table = 0x10420400 ∷ 0 ∷ 0x03800000 ∷ 9 ∷ 0 ∷ 0x48000200 ∷ []
 
-divisor-0 : value (bytes division-table) sevens 2 ≡ 0
+divisor-0 : value (decode (bytes division-table)) sevens 2 ≡ 0
 unfolding opened division-table sevens
 divisor-0 = refl
 
@@ -436,7 +437,7 @@ bank-switch-refused : verdict (set switched-off 3 0x18000000) ≡ refused 15 4
 unfolding opened switched-off
 bank-switch-refused = refl
 
-bank-switch-unfixed : fixing (bytes (set switched-off 3 0x18000000)) 0 ≡ unfixed
+bank-switch-unfixed : fixing (decode (bytes (set switched-off 3 0x18000000))) 0 ≡ unfixed
 unfolding opened switched-off
 bank-switch-unfixed = refl
 
@@ -447,7 +448,7 @@ worked-out =
     ∷ 0x00000009 ∷ 0x00000000 ∷ 0x48000200 ∷ 0x00000000 ∷ 0x58080600
     ∷ 0x10000000 ∷ 0xB8000000 ∷ 0x80000000 ∷ 0x98140C07 ∷ 0x80000000 ∷ 0x98101208 ∷ []
 
-worked-out-fixed : fixing (bytes worked-out) 4 ≡ fixed 1
+worked-out-fixed : fixing (decode (bytes worked-out)) 4 ≡ fixed 1
 unfolding opened worked-out
 worked-out-fixed = refl
 

@@ -19,4 +19,5 @@ pub mod Scheduling
 pub mod Buffered
 pub mod Scratch
 pub mod Switches
+pub mod Encoding
 pub mod Cases

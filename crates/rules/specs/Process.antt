@@ -5,7 +5,7 @@ use Prim.Native.Nat.{ℕ, zero, suc, _+_, _-_, _*_}
 use lib.Dec.{ltb, eqb}
 use lib.ListN.{getD, set, take, drop}
 use Rattle.rules.specs.Evaluation.{Environment, value, doors, areaSlots}
-use Rattle.rules.specs.Table.{body, gatheredAreas}
+use Rattle.rules.specs.Table.{Program, body, gatheredAreas}
 use Rattle.rules.specs.Table.{Statement, nothing, assign, sequence, branch, loop, call, latch, collective, leave}
 use Rattle.rules.specs.WellFormed.{nearestLoop}
 
@@ -101,27 +101,27 @@ unwound w (suc d) words = cond (eqb (top words) w) (popped words) (unwound w d (
 -- "Kinds 16, 17, 22 do their work and go. 18 becomes A above B. 19 becomes its branch. 20 with a zero condition goes, otherwise
 -- its body lies above it. 21 becomes the procedure's body." A latch number "from 12 on nothing is changed". A collective is
 -- left to Collective.antt. A leave "ends the nearest while around it".
-unfoldable pub advanced : List ℕ → Environment → List ℕ → Statement → List ℕ
-advanced table env words nothing = popped words
-advanced table env words (assign a b) = popped (set words a (value table env b))
-advanced table env words (sequence a b) = pushed (replaced words b) a
-advanced table env words (branch a b c) = replaced words (cond (eqb (value table env a) 0) c b)
-advanced table env words (loop a b) = cond (eqb (value table env a) 0) (popped words) (pushed words b)
-advanced table env words (call p) = replaced words (body table p)
-advanced table env words (latch a b) =
+unfoldable pub advanced : Program → Environment → List ℕ → Statement → List ℕ
+advanced program env words nothing = popped words
+advanced program env words (assign a b) = popped (set words a (value program env b))
+advanced program env words (sequence a b) = pushed (replaced words b) a
+advanced program env words (branch a b c) = replaced words (cond (eqb (value program env a) 0) c b)
+advanced program env words (loop a b) = cond (eqb (value program env a) 0) (popped words) (pushed words b)
+advanced program env words (call p) = replaced words (body program p)
+advanced program env words (latch a b) =
     popped
-    (cond (ltb (value table env a) latchPlaces) (set words (latchesAt + value table env a) (value table env b)) words)
-advanced table env words (collective k) = words
-advanced table env words leave = unwound (nearestLoop table (top words)) (depth words) words
+    (cond (ltb (value program env a) latchPlaces) (set words (latchesAt + value program env a) (value program env b)) words)
+advanced program env words (collective k) = words
+advanced program env words leave = unwound (nearestLoop program (top words)) (depth words) words
 
 -- 24's "if one is needed": kind 18, and kind 20 with a condition that is not zero
-unfoldable pub needsPlace : List ℕ → Environment → Statement → Bool
-needsPlace table env nothing = false
-needsPlace table env (assign a b) = false
-needsPlace table env (sequence a b) = true
-needsPlace table env (branch a b c) = false
-needsPlace table env (loop a b) = not (eqb (value table env a) 0)
-needsPlace table env (call p) = false
-needsPlace table env (latch a b) = false
-needsPlace table env (collective k) = false
-needsPlace table env leave = false
+unfoldable pub needsPlace : Program → Environment → Statement → Bool
+needsPlace program env nothing = false
+needsPlace program env (assign a b) = false
+needsPlace program env (sequence a b) = true
+needsPlace program env (branch a b c) = false
+needsPlace program env (loop a b) = not (eqb (value program env a) 0)
+needsPlace program env (call p) = false
+needsPlace program env (latch a b) = false
+needsPlace program env (collective k) = false
+needsPlace program env leave = false

@@ -9,6 +9,7 @@ use Rattle.rules.specs.declared.Verdict.{Verdict}
 use Rattle.rules.specs.Acceptance.{scratchWords, judged, checked, checkedScratch}
 use Rattle.rules.specs.Answers.{_then_, ask}
 use Rattle.rules.specs.WellFormed.{wellFormed}
+use Rattle.rules.specs.Table.{decode}
 
 -- the number that question 1 asked for
 abbrev pub formerWords : ℕ
@@ -16,7 +17,7 @@ formerWords = 256
 
 -- as `checked`, with that number
 unfoldable pub formerlyChecked : List ℕ → List ℕ → Verdict
-formerlyChecked table scratch = ask 1 (leb formerWords (length scratch)) then wellFormed table then judged table
+formerlyChecked table scratch = ask 1 (leb formerWords (length scratch)) then wellFormed table then judged (decode table)
 
 -- "Every table gets the same answer as with 256 words."
 abbrev pub SameAsWith256 : Type 0

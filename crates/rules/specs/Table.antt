@@ -1,8 +1,8 @@
 -- "Words of a table": words out of bytes, header, procedures, nodes, and the two decoded views of a node.
-use mathlib.Core.Bool.{Bool, true, false}
+use mathlib.Core.Bool.{Bool, true, false, cond, _&&_}
 use mathlib.Core.List.{List, [], _∷_}
 use Prim.Native.Nat.{ℕ, _+_, _-_, _*_, _/_, _%_, _^_}
-use lib.Dec.{eqb}
+use lib.Dec.{ltb, eqb}
 use lib.ListN.{getD}
 use Rattle.rules.specs.declared.Node.{Node}
 
@@ -16,38 +16,62 @@ wordAt table i =
 unfoldable pub edition : List ℕ → ℕ
 edition table = wordAt table 0 / 2 ^ 28
 
-unfoldable pub variables : List ℕ → ℕ
-variables table = wordAt table 0 / 2 ^ 22 % 64
-
-unfoldable pub procedures : List ℕ → ℕ
-procedures table = wordAt table 0 / 2 ^ 17 % 32
-
-unfoldable pub nodes : List ℕ → ℕ
-nodes table = wordAt table 0 / 2 ^ 8 % 512
-
--- "Word 1: single flags. The highest bit belongs to variable 0."
-unfoldable pub flagged : List ℕ → ℕ → Bool
-flagged table a = eqb (wordAt table 1 / 2 ^ (31 - a) % 2) 1
-
 -- "P procedure words: body node, 8 bits; effect flag, 1 bit; 23 zero bits. The last procedure is the main one."
 unfoldable pub procedureWord : List ℕ → ℕ → ℕ
 procedureWord table p = wordAt table (2 + p)
-
-unfoldable pub body : List ℕ → ℕ → ℕ
-body table p = procedureWord table p / 2 ^ 24
-
-unfoldable pub effectFlag : List ℕ → ℕ → Bool
-effectFlag table p = eqb (procedureWord table p / 2 ^ 23 % 2) 1
-
-unfoldable pub mainBody : List ℕ → ℕ
-mainBody table = body table (procedures table - 1)
 
 -- "N node words: kind, 5 bits; fields A, B, C, 9 bits each."
 unfoldable pub unpacked : ℕ → Node
 unpacked word = record { kind = word / 2 ^ 27; a = word / 2 ^ 18 % 512; b = word / 2 ^ 9 % 512; c = word % 512 }
 
-unfoldable pub nodeAt : List ℕ → ℕ → Node
-nodeAt table n = unpacked (wordAt table (2 + procedures table + n))
+-- what the words of a table say, whatever they are laid out in
+pub record Program : Type 0 where
+  pub variables : ℕ
+  pub procedures : ℕ
+  pub nodes : ℕ
+  pub flagged : ℕ → Bool
+  pub body : ℕ → ℕ
+  pub effectFlag : ℕ → Bool
+  pub node : ℕ → Node
+
+-- "Word 1: single flags. The highest bit belongs to variable 0." A variable, a procedure or a node that the words have no place for is
+-- not flagged, has body 0, is all 0.
+unfoldable pub decode : List ℕ → Program
+decode table =
+    let procedures = wordAt table 0 / 2 ^ 17 % 32 in
+    record {
+      variables = wordAt table 0 / 2 ^ 22 % 64;
+      procedures = procedures;
+      nodes = wordAt table 0 / 2 ^ 8 % 512;
+      flagged = λ a. ltb a 32 && eqb (wordAt table 1 / 2 ^ (31 - a) % 2) 1;
+      body = λ p. cond (ltb p procedures) (procedureWord table p / 2 ^ 24) 0;
+      effectFlag = λ p. ltb p procedures && eqb (procedureWord table p / 2 ^ 23 % 2) 1;
+      node = λ n. unpacked (wordAt table (2 + procedures + n));
+    }
+
+unfoldable pub variables : Program → ℕ
+variables program = program .variables
+
+unfoldable pub procedures : Program → ℕ
+procedures program = program .procedures
+
+unfoldable pub nodes : Program → ℕ
+nodes program = program .nodes
+
+unfoldable pub flagged : Program → ℕ → Bool
+flagged program a = program .flagged a
+
+unfoldable pub body : Program → ℕ → ℕ
+body program p = program .body p
+
+unfoldable pub effectFlag : Program → ℕ → Bool
+effectFlag program p = program .effectFlag p
+
+unfoldable pub mainBody : Program → ℕ
+mainBody program = body program (procedures program - 1)
+
+unfoldable pub nodeAt : Program → ℕ → Node
+nodeAt program n = program .node n
 
 -- the bounds of kinds: expressions from 0 on, statements from the first to the last
 abbrev pub lastExpression : ℕ
@@ -136,11 +160,11 @@ statementOf m =
     (m .kind - firstStatement)
     nothing
 
-unfoldable pub expressionAt : List ℕ → ℕ → Expression
-expressionAt table n = expressionOf (nodeAt table n)
+unfoldable pub expressionAt : Program → ℕ → Expression
+expressionAt program n = expressionOf (nodeAt program n)
 
-unfoldable pub statementAt : List ℕ → ℕ → Statement
-statementAt table n = statementOf (nodeAt table n)
+unfoldable pub statementAt : Program → ℕ → Statement
+statementAt program n = statementOf (nodeAt program n)
 
 -- what is said of a collective, and of any other statement
 abbrev pub onCollective : {A : Type 0} → Statement → (Collective → A) → A → A

@@ -9,7 +9,7 @@ use Rattle.rules.specs.declared.Verdict.{Verdict}
 use Rattle.rules.specs.Answers.{_then_, ask, askEach}
 use Rattle.rules.specs.Below.{atNode}
 use Rattle.rules.specs.Choice.{allBelow, firstFailing}
-use Rattle.rules.specs.Table.{wordAt, edition, variables, procedures, nodes, procedureWord, body, nodeAt}
+use Rattle.rules.specs.Table.{Program, decode, wordAt, edition, variables, procedures, nodes, procedureWord, body, nodeAt}
 use Rattle.rules.specs.Table.{lastExpression, firstStatement, lastStatement, gatheredAreas}
 use Rattle.rules.specs.Table.{Expression, constant, variable, ownNumber, processCount, door, slot, operation}
 use Rattle.rules.specs.Table.{Statement, nothing, assign, sequence, branch, loop, call, latch, collective, leave}
@@ -28,12 +28,12 @@ question2 table = ask 2 (eqb (length table % 4) 0 && leb 16 (length table) && le
 unfoldable pub headerFits : List ℕ → Bool
 headerFits table =
     eqb (edition table) 1
-    && leb 1 (variables table)
-    && leb (variables table) 32
-    && leb 1 (procedures table)
-    && leb (procedures table) 16
-    && leb 1 (nodes table)
-    && leb (nodes table) 256
+    && leb 1 (variables (decode table))
+    && leb (variables (decode table)) 32
+    && leb 1 (procedures (decode table))
+    && leb (procedures (decode table)) 16
+    && leb 1 (nodes (decode table))
+    && leb (nodes (decode table)) 256
     && eqb (wordAt table 0 % 2 ^ 8) 0
 
 -- 3: "Is word 0 as above?"
@@ -42,31 +42,31 @@ question3 table = ask 3 (headerFits table)
 
 -- 4: "Is the length 4 × (2 + P + N)?"
 abbrev pub question4 : List ℕ → Verdict
-question4 table = ask 4 (eqb (length table) (4 * (2 + procedures table + nodes table)))
+question4 table = ask 4 (eqb (length table) (4 * (2 + procedures (decode table) + nodes (decode table))))
 
 -- 5: "Are the flags from V on zero?"
 abbrev pub question5 : List ℕ → Verdict
-question5 table = ask 5 (eqb (wordAt table 1 % 2 ^ (32 - variables table)) 0)
+question5 table = ask 5 (eqb (wordAt table 1 % 2 ^ (32 - variables (decode table))) 0)
 
 -- 6: "Are a procedure's low 23 bits zero, its body below N?"
 unfoldable pub procedureFits : List ℕ → ℕ → Bool
-procedureFits table p = eqb (procedureWord table p % 2 ^ 23) 0 && ltb (body table p) (nodes table)
+procedureFits table p = eqb (procedureWord table p % 2 ^ 23) 0 && ltb (body (decode table) p) (nodes (decode table))
 
 abbrev pub question6 : List ℕ → Verdict
-question6 table = askEach 6 (procedures table) (procedureFits table)
+question6 table = askEach 6 (procedures (decode table)) (procedureFits table)
 
 -- 7: "Is the kind known?" Kinds 0 to 12 are expressions, 16 to 26 statements.
-unfoldable pub isExpression : List ℕ → ℕ → Bool
-isExpression table n = leb (nodeAt table n .kind) lastExpression
+unfoldable pub isExpression : Program → ℕ → Bool
+isExpression program n = leb (nodeAt program n .kind) lastExpression
 
-unfoldable pub isStatement : List ℕ → ℕ → Bool
-isStatement table n = leb firstStatement (nodeAt table n .kind) && leb (nodeAt table n .kind) lastStatement
+unfoldable pub isStatement : Program → ℕ → Bool
+isStatement program n = leb firstStatement (nodeAt program n .kind) && leb (nodeAt program n .kind) lastStatement
 
-unfoldable pub kindKnown : List ℕ → ℕ → Bool
-kindKnown table n = isExpression table n || isStatement table n
+unfoldable pub kindKnown : Program → ℕ → Bool
+kindKnown program n = isExpression program n || isStatement program n
 
-abbrev pub question7 : List ℕ → Verdict
-question7 table = askEach 7 (nodes table) (kindKnown table)
+abbrev pub question7 : Program → Verdict
+question7 program = askEach 7 (nodes program) (kindKnown program)
 
 -- how many of the fields A, B, C a kind names: the first so many, kinds 5 and 25 the roster "in field B". Kind 0 names B and C
 -- instead.
@@ -85,52 +85,52 @@ unnamedZero m =
     && (leb 2 (namedFields (m .kind)) || eqb (m .b) 0)
     && (leb 3 (namedFields (m .kind)) || eqb (m .c) 0))
 
-abbrev pub question8 : List ℕ → Verdict
-question8 table = askEach 8 (nodes table) (λ n. unnamedZero (nodeAt table n))
+abbrev pub question8 : Program → Verdict
+question8 program = askEach 8 (nodes program) (λ n. unnamedZero (nodeAt program n))
 
 -- 9: "Is a variable below V, a procedure below P, a part's node below the node naming it and of the sort named?" Of a roster,
 -- "above 3 is number 9".
-unfoldable pub expressionPart : List ℕ → ℕ → ℕ → Bool
-expressionPart table n a = ltb a n && isExpression table a
+unfoldable pub expressionPart : Program → ℕ → ℕ → Bool
+expressionPart program n a = ltb a n && isExpression program a
 
-unfoldable pub statementPart : List ℕ → ℕ → ℕ → Bool
-statementPart table n a = ltb a n && isStatement table a
+unfoldable pub statementPart : Program → ℕ → ℕ → Bool
+statementPart program n a = ltb a n && isStatement program a
 
-unfoldable pub expressionFits : List ℕ → ℕ → Expression → Bool
-expressionFits table n (constant v) = true
-expressionFits table n (variable a) = ltb a (variables table)
-expressionFits table n ownNumber = true
-expressionFits table n processCount = true
-expressionFits table n (door a) = expressionPart table n a
-expressionFits table n (slot a r) = expressionPart table n a && ltb r gatheredAreas
-expressionFits table n (operation o a b) = expressionPart table n a && expressionPart table n b
+unfoldable pub expressionFits : Program → ℕ → Expression → Bool
+expressionFits program n (constant v) = true
+expressionFits program n (variable a) = ltb a (variables program)
+expressionFits program n ownNumber = true
+expressionFits program n processCount = true
+expressionFits program n (door a) = expressionPart program n a
+expressionFits program n (slot a r) = expressionPart program n a && ltb r gatheredAreas
+expressionFits program n (operation o a b) = expressionPart program n a && expressionPart program n b
 
-unfoldable pub collectiveFits : List ℕ → ℕ → Collective → Bool
-collectiveFits table n barrier = true
-collectiveFits table n (broadcast a b c) =
-    ltb a (variables table) && expressionPart table n b && expressionPart table n c
-collectiveFits table n (exchange a r) = expressionPart table n a && ltb r gatheredAreas
+unfoldable pub collectiveFits : Program → ℕ → Collective → Bool
+collectiveFits program n barrier = true
+collectiveFits program n (broadcast a b c) =
+    ltb a (variables program) && expressionPart program n b && expressionPart program n c
+collectiveFits program n (exchange a r) = expressionPart program n a && ltb r gatheredAreas
 
-unfoldable pub statementFits : List ℕ → ℕ → Statement → Bool
-statementFits table n nothing = true
-statementFits table n (assign a b) = ltb a (variables table) && expressionPart table n b
-statementFits table n (sequence a b) = statementPart table n a && statementPart table n b
-statementFits table n (branch a b c) = expressionPart table n a && statementPart table n b && statementPart table n c
-statementFits table n (loop a b) = expressionPart table n a && statementPart table n b
-statementFits table n (call p) = ltb p (procedures table)
-statementFits table n (latch a b) = expressionPart table n a && expressionPart table n b
-statementFits table n (collective k) = collectiveFits table n k
-statementFits table n leave = true
+unfoldable pub statementFits : Program → ℕ → Statement → Bool
+statementFits program n nothing = true
+statementFits program n (assign a b) = ltb a (variables program) && expressionPart program n b
+statementFits program n (sequence a b) = statementPart program n a && statementPart program n b
+statementFits program n (branch a b c) = expressionPart program n a && statementPart program n b && statementPart program n c
+statementFits program n (loop a b) = expressionPart program n a && statementPart program n b
+statementFits program n (call p) = ltb p (procedures program)
+statementFits program n (latch a b) = expressionPart program n a && expressionPart program n b
+statementFits program n (collective k) = collectiveFits program n k
+statementFits program n leave = true
 
-unfoldable pub nodeFits : List ℕ → ℕ → Bool
-nodeFits table n = expressionFits table n (expressionAt table n) && statementFits table n (statementAt table n)
+unfoldable pub nodeFits : Program → ℕ → Bool
+nodeFits program n = expressionFits program n (expressionAt program n) && statementFits program n (statementAt program n)
 
-abbrev pub question9 : List ℕ → Verdict
-question9 table = askEach 9 (nodes table) (nodeFits table)
+abbrev pub question9 : Program → Verdict
+question9 program = askEach 9 (nodes program) (nodeFits program)
 
 -- 10: "Is each body a statement?"
-abbrev pub question10 : List ℕ → Verdict
-question10 table = askEach 10 (procedures table) (λ p. isStatement table (body table p))
+abbrev pub question10 : Program → Verdict
+question10 program = askEach 10 (procedures program) (λ p. isStatement program (body program p))
 
 -- the parts of a node, in the order of its fields
 unfoldable pub expressionParts : Expression → List ℕ
@@ -158,8 +158,8 @@ statementParts (latch a b) = a ∷ b ∷ []
 statementParts (collective k) = collectiveParts k
 statementParts leave = []
 
-unfoldable pub partsAt : List ℕ → ℕ → List ℕ
-partsAt table n = expressionParts (expressionAt table n) ++ statementParts (statementAt table n)
+unfoldable pub partsAt : Program → ℕ → List ℕ
+partsAt program n = expressionParts (expressionAt program n) ++ statementParts (statementAt program n)
 
 -- the list of `list 0`, `list 1`, .., `list (n - 1)`, joined
 unfoldable pub joined : (ℕ → List ℕ) → ℕ → List ℕ
@@ -167,8 +167,8 @@ joined list zero = []
 joined list (suc n) = joined list n ++ list n
 
 -- every use of a node: the parts of every node, then the body of every procedure
-unfoldable pub uses : List ℕ → List ℕ
-uses table = joined (partsAt table) (nodes table) ++ joined (λ p. body table p ∷ []) (procedures table)
+unfoldable pub uses : Program → List ℕ
+uses program = joined (partsAt program) (nodes program) ++ joined (λ p. body program p ∷ []) (procedures program)
 
 -- how often a number stands in a list
 unfoldable pub occurrences : ℕ → List ℕ → ℕ
@@ -176,36 +176,40 @@ occurrences n [] = 0
 occurrences n (x ∷ xs) = cond (eqb x n) 1 0 + occurrences n xs
 
 -- 11: "Is each node used once, as a part or a body?"
-unfoldable pub usedOnce : List ℕ → ℕ → Bool
-usedOnce table n = eqb (occurrences n (uses table)) 1
+unfoldable pub usedOnce : Program → ℕ → Bool
+usedOnce program n = eqb (occurrences n (uses program)) 1
 
-abbrev pub question11 : List ℕ → Verdict
-question11 table = askEach 11 (nodes table) (usedOnce table)
+abbrev pub question11 : Program → Verdict
+question11 program = askEach 11 (nodes program) (usedOnce program)
 
 -- whether a list of results is true at some node of a list
 unfoldable pub someOf : List Bool → List ℕ → Bool
 someOf results [] = false
 someOf results (a ∷ nodes) = getD results a false || someOf results nodes
 
+-- whether a test holds of node m, or of a node that the parts lead down to from it
+unfoldable pub anywhere : (ℕ → List ℕ) → (ℕ → Bool) → ℕ → Bool
+anywhere parts test m = atNode (λ earlier k. test k || someOf earlier (parts k)) m
+
 -- whether node n stands in the tree of node m: it is m, or it stands in the tree of a part of m
-unfoldable pub inTree : List ℕ → ℕ → ℕ → Bool
-inTree table n m = atNode (λ earlier k. eqb k n || someOf earlier (partsAt table k)) m
+abbrev pub inTree : Program → ℕ → ℕ → Bool
+inTree program n m = anywhere (partsAt program) (λ k. eqb k n) m
 
 -- the procedure that the statement at node n calls is below every procedure whose body's tree holds the node
-unfoldable pub calledBelow : List ℕ → ℕ → Statement → Bool
-calledBelow table n nothing = true
-calledBelow table n (assign a b) = true
-calledBelow table n (sequence a b) = true
-calledBelow table n (branch a b c) = true
-calledBelow table n (loop a b) = true
-calledBelow table n (call q) = allBelow (λ p. not (inTree table n (body table p)) || ltb q p) (procedures table)
-calledBelow table n (latch a b) = true
-calledBelow table n (collective k) = true
-calledBelow table n leave = true
+unfoldable pub calledBelow : Program → ℕ → Statement → Bool
+calledBelow program n nothing = true
+calledBelow program n (assign a b) = true
+calledBelow program n (sequence a b) = true
+calledBelow program n (branch a b c) = true
+calledBelow program n (loop a b) = true
+calledBelow program n (call q) = allBelow (λ p. not (inTree program n (body program p)) || ltb q p) (procedures program)
+calledBelow program n (latch a b) = true
+calledBelow program n (collective k) = true
+calledBelow program n leave = true
 
 -- 12: "Does each call name a procedure below its own?"
-abbrev pub question12 : List ℕ → Verdict
-question12 table = askEach 12 (nodes table) (λ n. calledBelow table n (statementAt table n))
+abbrev pub question12 : Program → Verdict
+question12 program = askEach 12 (nodes program) (λ n. calledBelow program n (statementAt program n))
 
 -- the parts of a statement that are statements and stand in the same while as it; a while's body stands in that while
 unfoldable pub openParts : Statement → List ℕ
@@ -220,31 +224,31 @@ openParts (collective k) = []
 openParts leave = []
 
 -- whether a test holds of node m, or of a statement that stands "within" it, "not in an inner while"
-unfoldable pub openly : List ℕ → (ℕ → Bool) → ℕ → Bool
-openly table test m = atNode (λ earlier k. test k || someOf earlier (openParts (statementAt table k))) m
+abbrev pub openly : Program → (ℕ → Bool) → ℕ → Bool
+openly program test m = anywhere (λ k. openParts (statementAt program k)) test m
 
 -- whether the statement is a while and node n stands "within the while's body, not in an inner while"
-unfoldable pub loopAround : List ℕ → ℕ → Statement → Bool
-loopAround table n nothing = false
-loopAround table n (assign a b) = false
-loopAround table n (sequence a b) = false
-loopAround table n (branch a b c) = false
-loopAround table n (loop a b) = openly table (λ k. eqb k n) b
-loopAround table n (call p) = false
-loopAround table n (latch a b) = false
-loopAround table n (collective k) = false
-loopAround table n leave = false
+unfoldable pub loopAround : Program → ℕ → Statement → Bool
+loopAround program n nothing = false
+loopAround program n (assign a b) = false
+loopAround program n (sequence a b) = false
+loopAround program n (branch a b c) = false
+loopAround program n (loop a b) = openly program (λ k. eqb k n) b
+loopAround program n (call p) = false
+loopAround program n (latch a b) = false
+loopAround program n (collective k) = false
+loopAround program n leave = false
 
 -- "the nearest while around it in the same procedure". By 11 there is one at most; the number of nodes stands for none.
-unfoldable pub nearestLoop : List ℕ → ℕ → ℕ
-nearestLoop table n = firstFailing (λ w. not (loopAround table n (statementAt table w))) (nodes table)
+unfoldable pub nearestLoop : Program → ℕ → ℕ
+nearestLoop program n = firstFailing (λ w. not (loopAround program n (statementAt program w))) (nodes program)
 
 -- 26: "a leave with no while around it, at its node, asked after 12 by checker, start and turn alike"
-unfoldable pub leaveEnclosed : List ℕ → ℕ → Bool
-leaveEnclosed table n = not (isLeave (statementAt table n)) || ltb (nearestLoop table n) (nodes table)
+unfoldable pub leaveEnclosed : Program → ℕ → Bool
+leaveEnclosed program n = not (isLeave (statementAt program n)) || ltb (nearestLoop program n) (nodes program)
 
-abbrev pub question26 : List ℕ → Verdict
-question26 table = askEach 26 (nodes table) (leaveEnclosed table)
+abbrev pub question26 : Program → Verdict
+question26 program = askEach 26 (nodes program) (leaveEnclosed program)
 
 -- the first of questions 2 to 12 that fails
 unfoldable pub wellBuilt : List ℕ → Verdict
@@ -254,13 +258,13 @@ wellBuilt table =
     then question4 table
     then question5 table
     then question6 table
-    then question7 table
-    then question8 table
-    then question9 table
-    then question10 table
-    then question11 table
-    then question12 table
+    then question7 (decode table)
+    then question8 (decode table)
+    then question9 (decode table)
+    then question10 (decode table)
+    then question11 (decode table)
+    then question12 (decode table)
 
 -- the first of questions 2 to 12 and 26 that fails
 unfoldable pub wellFormed : List ℕ → Verdict
-wellFormed table = wellBuilt table then question26 table
+wellFormed table = wellBuilt table then question26 (decode table)

@@ -26,6 +26,7 @@ use Rattle.machine.proofs.VerdictSteps.{denied-team, denied-place, taken-step}
 use Rattle.scheduler.specs.Serving.{service, unfitIn, Fit, Makes, teamOf, Serves}
 use Rattle.scheduler.proofs.NextLaws.{next-within}
 use Rattle.scheduler.proofs.TurnLaws.{leaves}
+use Rattle.rules.specs.Table.{decode}
 
 -- `end` is what the whole call comes to
 pub record Between (table : List ℕ) (header : Header) (count turns : ℕ) (end : Served) (state roll : List ℕ) (made last unfit : ℕ)
@@ -34,7 +35,7 @@ pub record Between (table : List ℕ) (header : Header) (count turns : ℕ) (end
   pub team : Team table header state roll count
   pub listed : last < count
   pub apart : allAtOneNode roll count ≡ false
-  pub unfit-is : unfit ≡ unfitIn table state roll count
+  pub unfit-is : unfit ≡ unfitIn (decode table) state roll count
   pub going : end ≡ serving table (turns - made) made last (teamOf state roll)
 
 -- a call at its first place
@@ -48,7 +49,7 @@ begun {table} {header} {state} {roll} {count} turns asked =
       team = asked .team;
       listed = asked .within;
       apart = asked .apart;
-      unfit-is = sym (first-none (processFits table state roll) count (asked .fits));
+      unfit-is = sym (first-none (processFits (decode table) state roll) count (asked .fits));
       going = rw e;
     }
 
@@ -105,40 +106,40 @@ module _ {table : List ℕ} {header : Header} {count turns : ℕ} {end : Served}
           ∙ rw (lt-ltb next count next-low, ← b .unfit-is, lt-ltb unfit count l)))
 
       module _ (all : count ≤ unfit) where
-        fits : Fit table state roll count
-        fits = all-passed (processFits table state roll) count (λ l. omega (arith, b .unfit-is))
+        fits : Fit (decode table) state roll count
+        fits = all-passed (processFits (decode table) state roll) count (λ l. omega (arith, b .unfit-is))
 
         holds : teamVerdict table state roll next ≡ Accepted
         holds = team-22 table state roll count next sized fits (b .apart) ∙ rw (lt-ltb next count next-low)
 
         -- what question 24 is asked with
-        pub asked-place : Team table header state roll count × (next < count) × (processFits table state roll next ≡ true)
+        pub asked-place : Team table header state roll count × (next < count) × (processFits (decode table) state roll next ≡ true)
         asked-place = (b .team, next-low, fits next next-low)
 
-        pub stops-24 : placeLacked table state roll count next ≡ true → Serves end (service made last (refused 24 next)) state roll
+        pub stops-24 : placeLacked (decode table) state roll count next ≡ true → Serves end (service made last (refused 24 next)) state roll
         stops-24 e =
             stops (denied-place table state roll next holds (rw (processes-in roll count (b .team .rolled)) e))
 
-        module _ (free : placeLacked table state roll count next ≡ false) where
+        module _ (free : placeLacked (decode table) state roll count next ≡ false) where
           pub ready : Ready table header state roll count next
           ready = record { team = b .team; within = next-low; fits = fits; place = free }
 
           runs : statusAt roll next ≡ running
           runs = next-runs roll last some
 
-          same : stepped table state roll next ≡ stepTaken table state roll count next
+          same : stepped table state roll next ≡ stepTaken (decode table) state roll count next
           same =
               let counted = processes-in roll count (b .team .rolled) in
               rw counted at (taken-step table state roll next holds (rw counted free))
 
-          served-on : (s : Stepped) → Worked s → stepTaken table state roll count next .answer ≡ s
+          served-on : (s : Stepped) → Worked s → stepTaken (decode table) state roll count next .answer ≡ s
               → end ≡ serving table (turns - suc made) (suc made) next (afterTurn table (teamOf state roll) next)
           unfolding serving
           served-on (Taken a) worked e = one-more ∙ rw (some, same, e)
           served-on (Refused r) worked e = absurd worked
 
           -- a turn is made
-          pub goes-on : {after rolled : List ℕ} {left : ℕ} → Makes table (stepTaken table state roll count next) count left after rolled
+          pub goes-on : {after rolled : List ℕ} {left : ℕ} → Makes (decode table) (stepTaken (decode table) state roll count next) count left after rolled
               → Between table header count turns end after rolled (made + 1) next left
           goes-on m =
               let kept = leaves ready runs in
@@ -157,7 +158,7 @@ module _ {table : List ℕ} {header : Header} {count turns : ℕ} {end : Served}
                 apart = rw (m .written) (kept .apart);
                 unfit-is = m .unfit-is;
                 going = rw (one, m .left, m .written, ← same)
-                    (served-on (stepTaken table state roll count next .answer) (taken-worked table state roll count next runs) refl);
+                    (served-on (stepTaken (decode table) state roll count next .answer) (taken-worked table state roll count next runs) refl);
               }
 
 -- a call by the answer to its questions

@@ -20,7 +20,7 @@ use Rattle.rules.specs.Collective.{arrivalOf, received, completedState, release
 use Rattle.rules.specs.Process.{stackPlaces, processWords, processAt, withProcess, environment, depth, top, popped}
 use Rattle.rules.specs.Step.{Outcome, stackFits, fieldsZero, lackedZero, waitFits, leaveFits, recordFits, processFits}
 use Rattle.rules.specs.Step.{completed, stepRunning, stepTaken}
-use Rattle.rules.specs.Table.{Collective, barrier, broadcast, exchange, collective, nodes, statementAt, isLeave}
+use Rattle.rules.specs.Table.{Program, decode, Collective, barrier, broadcast, exchange, collective, nodes, statementAt, isLeave}
 use Rattle.rules.specs.WellFormed.{isStatement}
 use Rattle.rules.proofs.AnswerLaws.{both-left, both-right, both-true}
 use Rattle.rules.proofs.ArrivalLaws.{RecordIs, SameRecord, with-arrival-length, with-arrival-same, with-arrival-other}
@@ -53,14 +53,14 @@ lacked-same roll other q same barrier = rw (same .value, same .source)
 lacked-same roll other q same (broadcast a b c) = refl
 lacked-same roll other q same (exchange a r) = rw (same .source)
 
-fits-same : (table state roll other : List ℕ) (q : ℕ) → SameRecord other roll q
-    → processFits table state other q ≡ processFits table state roll q
+fits-same : (program : Program) (state roll other : List ℕ) (q : ℕ) → SameRecord other roll q
+    → processFits program state other q ≡ processFits program state roll q
 unfolding processFits recordFits fieldsZero waitFits
-fits-same table state roll other q same =
+fits-same program state roll other q same =
     rw (same .status, same .node, same .value, same .source, fun-ext (lacked-same roll other q same))
 
 -- a running process's record
-running-record : (table words roll : List ℕ) (p : ℕ) → statusAt roll p ≡ running → recordFits table words roll p ≡ true
+running-record : (table words roll : List ℕ) (p : ℕ) → statusAt roll p ≡ running → recordFits (decode table) words roll p ≡ true
     → RecordIs roll p runningRecord
 unfolding recordFits fieldsZero
 running-record table words roll p runs fit =
@@ -68,9 +68,9 @@ running-record table words roll p runs fit =
     let value = eqb (arrivalValue roll p) 0 in
     let source = eqb (arrivalSource roll p) 0 in
     let held = not (eqb (depth words) 0) in
-    let all : (held && (node && value && source) && leaveFits table words) ≡ true =
+    let all : (held && (node && value && source) && leaveFits (decode table) words) ≡ true =
     rw (eq-eqb (statusAt roll p) running runs) at fit in
-    let zero = both-right held (node && value && source) (both-left (held && (node && value && source)) (leaveFits table words) all) in
+    let zero = both-right held (node && value && source) (both-left (held && (node && value && source)) (leaveFits (decode table) words) all) in
     let front = both-left (node && value) source zero in
     record {
       status = runs;
@@ -80,17 +80,17 @@ running-record table words roll p runs fit =
     }
 
 -- what is left to ask, by an answer
-abbrev pub LeftOf : Stepped → List ℕ → List ℕ → List ℕ → ℕ → ℕ → Type 0
-LeftOf (Taken answer) table state roll count p = LeftBy (answer .event) table state roll count p
-LeftOf (Refused r) table state roll count p = ⊥
+abbrev pub LeftOf : Stepped → Program → List ℕ → List ℕ → ℕ → ℕ → Type 0
+LeftOf (Taken answer) program state roll count p = LeftBy (answer .event) program state roll count p
+LeftOf (Refused r) program state roll count p = ⊥
 
 pub record Leaves (table : List ℕ) (count p : ℕ) (outcome : Outcome) : Type 0 where
   pub stated : length (outcome .state) ≡ processWords * count
   pub rolled : length (outcome .roll) ≡ arrivalSize * count
   pub apart : allAtOneNode (outcome .roll) count ≡ false
-  pub left : LeftOf (outcome .answer) table (outcome .state) (outcome .roll) count p
-  pub but-leaves : (q : ℕ) → q < count → leaveFits table (processAt (outcome .state) q) ≡ true
-      → processFits table (outcome .state) (outcome .roll) q ≡ true
+  pub left : LeftOf (outcome .answer) (decode table) (outcome .state) (outcome .roll) count p
+  pub but-leaves : (q : ℕ) → q < count → leaveFits (decode table) (processAt (outcome .state) q) ≡ true
+      → processFits (decode table) (outcome .state) (outcome .roll) q ≡ true
 
 module _ {table : List ℕ} {header : Header} {state roll : List ℕ} {count p : ℕ} (r : Ready table header state roll count p)
     (runs : statusAt roll p ≡ running) where
@@ -107,23 +107,23 @@ module _ {table : List ℕ} {header : Header} {state roll : List ℕ} {count p :
   stacked = ready-stacked r runs
 
   running-is : RecordIs roll p runningRecord
-  running-is = running-record table words roll p runs (record-fit table state roll p (r .fits p (r .within)))
+  running-is = running-record table words roll p runs (record-fit (decode table) state roll p (r .fits p (r .within)))
 
   next-sized : length next ≡ processWords
-  next-sized = advanced-length table (environment words p count) words (statementAt table (top words)) ∙ stacked .sized
+  next-sized = advanced-length (decode table) (environment words p count) words (statementAt (decode table) (top words)) ∙ stacked .sized
 
-  statements : (q : ℕ) → q < count → Statements table (processAt state q)
+  statements : (q : ℕ) → q < count → Statements (decode table) (processAt state q)
   unfolding stackFits
   statements q l =
       record {
-        depth-high = bounded table state roll q (r .fits q l);
-        entries = all-at (λ i. isStatement table (entry (processAt state q) i)) (depth (processAt state q))
-            (stack-fit table state roll q (r .fits q l));
+        depth-high = bounded (decode table) state roll q (r .fits q l);
+        entries = all-at (λ i. isStatement (decode table) (entry (processAt state q) i)) (depth (processAt state q))
+            (stack-fit (decode table) state roll q (r .fits q l));
       }
 
-  next-statements : Statements table next
+  next-statements : Statements (decode table) next
   next-statements =
-      statements-advanced table (formed table (r .team .read .well-formed)) words (stacked .sized) (statements p (r .within)) (stacked .held)
+      statements-advanced (decode table) (formed table (r .team .read .well-formed)) words (stacked .sized) (statements p (r .within)) (stacked .held)
       (environment words p count) (ready-place r runs)
 
   abbrev moved-state : List ℕ
@@ -133,17 +133,17 @@ module _ {table : List ℕ} {header : Header} {state roll : List ℕ} {count p :
   at-p = with-process-same state count p next (r .team .stated) next-sized (r .within)
 
   others-fit : (other : List ℕ) → ((q : ℕ) → q ≢ p → SameRecord other roll q) → (q : ℕ) → q < count → q ≢ p
-      → processFits table moved-state other q ≡ true
+      → processFits (decode table) moved-state other q ≡ true
   unfolding processFits
   others-fit other same q l n =
       rw (with-process-other state count p next q (r .team .stated) next-sized (r .within) l n)
-      (fits-same table state roll other q (same q n) ∙ r .fits q l)
+      (fits-same (decode table) state roll other q (same q n) ∙ r .fits q l)
 
   moved-stated : length moved-state ≡ processWords * count
   moved-stated = with-process-length state count p next (r .team .stated) next-sized (r .within) ∙ r .team .stated
 
   -- it leaves a statement behind it
-  moves-on : depth next ≢ 0 → MovedOn table moved-state roll count p
+  moves-on : depth next ≢ 0 → MovedOn (decode table) moved-state roll count p
   unfolding processFits recordFits fieldsZero stackFits
   moves-on n =
       let is = running-is in
@@ -153,7 +153,7 @@ module _ {table : List ℕ} {header : Header} {state roll : List ℕ} {count p :
         own = rw (
           at-p,
           le-leb (depth next) stackPlaces (all .depth-high),
-          all-true (λ i. isStatement table (entry next i)) (depth next) (all .entries),
+          all-true (λ i. isStatement (decode table) (entry next i)) (depth next) (all .entries),
           is .status,
           is .node,
           is .value,
@@ -165,11 +165,11 @@ module _ {table : List ℕ} {header : Header} {state roll : List ℕ} {count p :
       }
 
   -- all processes fit, if p does and the others' records are the same
-  all-fit : (other : List ℕ) → ((q : ℕ) → q ≢ p → SameRecord other roll q) → recordFits table next other p ≡ true
-      → Fit table moved-state other count
+  all-fit : (other : List ℕ) → ((q : ℕ) → q ≢ p → SameRecord other roll q) → recordFits (decode table) next other p ≡ true
+      → Fit (decode table) moved-state other count
   all-fit other same own q l =
       elim (ℕ-discrete q p) [
-        | yes e ↦ rw e (statements-fit table moved-state other p (rw at-p next-statements) (rw at-p own))
+        | yes e ↦ rw e (statements-fit (decode table) moved-state other p (rw at-p next-statements) (rw at-p own))
         | no n ↦ others-fit other same q l n
       ]
 
@@ -180,36 +180,36 @@ module _ {table : List ℕ} {header : Header} {state roll : List ℕ} {count p :
   ended-is : RecordIs ended-roll p endedRecord
   ended-is = with-arrival-same roll count p endedRecord (r .team .rolled) (r .within)
 
-  finishes-so : depth next ≡ 0 → Fit table moved-state ended-roll count
+  finishes-so : depth next ≡ 0 → Fit (decode table) moved-state ended-roll count
   finishes-so d =
       all-fit ended-roll (λ q o. with-arrival-other roll p q endedRecord o)
-      (standing-fits table next ended-roll count p (λ h. absurd (omega arith)) (ends d ended-is))
+      (standing-fits (decode table) next ended-roll count p (λ h. absurd (omega arith)) (ends d ended-is))
 
   -- it arrives at a collective
-  module _ (k : Collective) (e : statementAt table (top words) ≡ collective k) where
+  module _ (k : Collective) (e : statementAt (decode table) (top words) ≡ collective k) where
     abbrev arrived-roll : List ℕ
     arrived-roll = rollArrived table count state roll p k
 
-    arrived-is : RecordIs arrived-roll p (broughtRecord table (environment words p count) (top words) k)
+    arrived-is : RecordIs arrived-roll p (broughtRecord (decode table) (environment words p count) (top words) k)
     arrived-is =
-        subst (RecordIs arrived-roll p) (arrival-brought table (environment words p count) (top words) k)
-        (with-arrival-same roll count p (arrivalOf table (environment words p count) (top words) k) (r .team .rolled) (r .within))
+        subst (RecordIs arrived-roll p) (arrival-brought (decode table) (environment words p count) (top words) k)
+        (with-arrival-same roll count p (arrivalOf (decode table) (environment words p count) (top words) k) (r .team .rolled) (r .within))
 
     arrived-rolled : length arrived-roll ≡ arrivalSize * count
     arrived-rolled =
-        with-arrival-length roll p (arrivalOf table (environment words p count) (top words) k) ∙ r .team .rolled
+        with-arrival-length roll p (arrivalOf (decode table) (environment words p count) (top words) k) ∙ r .team .rolled
 
-    arrives-so : Fit table state arrived-roll count
+    arrives-so : Fit (decode table) state arrived-roll count
     unfolding leaveFits
     arrives-so q l =
         elim (ℕ-discrete q p) [
           | yes same ↦
               rw same
-              (statements-fit table state arrived-roll p (statements p (r .within))
-              (standing-fits table words arrived-roll count p (λ h. rw e) (waits k (stacked .held) e arrived-is)))
+              (statements-fit (decode table) state arrived-roll p (statements p (r .within))
+              (standing-fits (decode table) words arrived-roll count p (λ h. rw e) (waits k (stacked .held) e arrived-is)))
           | no n ↦
-              fits-same table state roll arrived-roll q
-              (with-arrival-other roll p q (arrivalOf table (environment words p count) (top words) k) n)
+              fits-same (decode table) state roll arrived-roll q
+              (with-arrival-other roll p q (arrivalOf (decode table) (environment words p count) (top words) k) n)
               ∙ r .fits q l
         ]
 
@@ -224,19 +224,19 @@ module _ {table : List ℕ} {header : Header} {state roll : List ℕ} {count p :
         → processAt met-state q ≡ popped (received arrived-roll count k q (processAt state q))
     met-words = completed-at arrived-roll count k state (r .team .stated)
 
-    met-statements : (q : ℕ) → q < count → Statements table (processAt met-state q)
+    met-statements : (q : ℕ) → q < count → Statements (decode table) (processAt met-state q)
     met-statements q l =
         let before = processAt state q in
-        let low = stores-low table (formed table (r .team .read .well-formed)) (top words) k e in
+        let low = stores-low (decode table) (formed table (r .team .read .well-formed)) (top words) k e in
         let sized = process-length state count q (r .team .stated) l in
         rw (met-words q l)
-        (each-popped (λ n i. isStatement table n ≡ true) (received arrived-roll count k q before)
+        (each-popped (λ n i. isStatement (decode table) n ≡ true) (received arrived-roll count k q before)
         (received-length arrived-roll count k q before ∙ sized)
-        (each-kept (λ n i. isStatement table n ≡ true) before (received arrived-roll count k q before)
+        (each-kept (λ n i. isStatement (decode table) n ≡ true) before (received arrived-roll count k q before)
         (received-depth arrived-roll count k q before (r .team .few) low)
         (λ i. received-entry arrived-roll count k q before i (r .team .few) low) (statements q l)))
 
-    met-standing : (q : ℕ) → q < count → Standing table (processAt met-state q) met-roll count q
+    met-standing : (q : ℕ) → q < count → Standing (decode table) (processAt met-state q) met-roll count q
     met-standing q l =
         let is = released-is met-state arrived-roll count arrived-rolled q l in
         ⊎-elim
@@ -246,15 +246,15 @@ module _ {table : List ℕ} {header : Header} {state roll : List ℕ} {count p :
         stands-running (omega arith) (rw z at is))
         (bool-cases (eqb (depth (processAt met-state q)) 0))
 
-    meets-so : (q : ℕ) → q < count → leaveFits table (processAt met-state q) ≡ true → processFits table met-state met-roll q ≡ true
+    meets-so : (q : ℕ) → q < count → leaveFits (decode table) (processAt met-state q) ≡ true → processFits (decode table) met-state met-roll q ≡ true
     meets-so q l covered =
-        statements-fit table met-state met-roll q (met-statements q l)
-        (standing-fits table (processAt met-state q) met-roll count q (λ d. covered) (met-standing q l))
+        statements-fit (decode table) met-state met-roll q (met-statements q l)
+        (standing-fits (decode table) (processAt met-state q) met-roll count q (λ d. covered) (met-standing q l))
 
-  pub leaves : Leaves table count p (stepTaken table state roll count p)
+  pub leaves : Leaves table count p (stepTaken (decode table) state roll count p)
   unfolding completed releasedRoll
   leaves =
-      rw (taken-run table state roll count p runs)
+      rw (taken-run (decode table) state roll count p runs)
       (by-step table count state roll p (Unit {0}) (Leaves table count p)
       (record {
         moves = λ h n.
@@ -298,14 +298,14 @@ module _ {table : List ℕ} {header : Header} {state roll : List ℕ} {count p :
       })
       tt)
 
-  module _ {result : Stepped} {after rolled : List ℕ} (ran : Gives (stepRunning table state roll count p) result after rolled) where
-    pub as-taken : Gives (stepTaken table state roll count p) result after rolled
-    as-taken = rw (taken-run table state roll count p runs) ran
+  module _ {result : Stepped} {after rolled : List ℕ} (ran : Gives (stepRunning (decode table) state roll count p) result after rolled) where
+    pub as-taken : Gives (stepTaken (decode table) state roll count p) result after rolled
+    as-taken = rw (taken-run (decode table) state roll count p runs) ran
 
     left-of : {s : Stepped} → result ≡ s
-        → LeftOf s table (stepTaken table state roll count p .state) (stepTaken table state roll count p .roll) count p
+        → LeftOf s (decode table) (stepTaken (decode table) state roll count p .state) (stepTaken (decode table) state roll count p .roll) count p
     left-of e =
-        subst (λ s. LeftOf s table (stepTaken table state roll count p .state) (stepTaken table state roll count p .roll) count p)
+        subst (λ s. LeftOf s (decode table) (stepTaken (decode table) state roll count p .state) (stepTaken (decode table) state roll count p .roll) count p)
         (sym (as-taken .answered) ∙ e) (leaves .left)
 
     pub turned : {answer : Answer} → result ≡ Taken answer → Turned table header after rolled count p (answer .event)
@@ -323,10 +323,10 @@ module _ {table : List ℕ} {header : Header} {state roll : List ℕ} {count p :
     unrefused e = left-of e
 
     -- of a table without leaves nothing is left to ask
-    pub all-left : hasLeave table ≡ false → count ≡ unfitIn table after rolled count
+    pub all-left : hasLeave (decode table) ≡ false → count ≡ unfitIn (decode table) after rolled count
     unfolding leaveFits
     all-left none =
         rw (as-taken .left, as-taken .written)
         (sym
-        (first-none (processFits table (stepTaken table state roll count p .state) (stepTaken table state roll count p .roll)) count
-        (λ q l. leaves .but-leaves q l (rw (no-leave-at table (formed table (r .team .read .well-formed)) none _)))))
+        (first-none (processFits (decode table) (stepTaken (decode table) state roll count p .state) (stepTaken (decode table) state roll count p .roll)) count
+        (λ q l. leaves .but-leaves q l (rw (no-leave-at (decode table) (formed table (r .team .read .well-formed)) none _)))))

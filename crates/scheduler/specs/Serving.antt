@@ -14,7 +14,7 @@ use Rattle.rules.specs.Process.{processWords, processAt, top}
 use Rattle.rules.specs.Run.{Team}
 use Rattle.rules.specs.Scheduling.{someRuns, nextProcess, Served}
 use Rattle.rules.specs.Step.{Outcome, leaveFits, processFits}
-use Rattle.rules.specs.Table.{nodes, statementAt, isLeave}
+use Rattle.rules.specs.Table.{Program, decode, nodes, statementAt, isLeave}
 use Rattle.rules.specs.WellFormed.{isStatement}
 use Rattle.table.specs.declared.Header.{Header}
 use Rattle.process.specs.Given.{Read, Stacked}
@@ -28,41 +28,41 @@ abbrev pub nextOf : List ℕ → ℕ → ℕ → ℕ
 nextOf roll count last = cond (someRuns roll last) (nextProcess roll last) count
 
 -- the first process that question 23 fails of, or the count where it holds of all
-abbrev pub unfitIn : List ℕ → List ℕ → List ℕ → ℕ → ℕ
-unfitIn table state roll count = firstFailing (processFits table state roll) count
+abbrev pub unfitIn : Program → List ℕ → List ℕ → ℕ → ℕ
+unfitIn program state roll count = firstFailing (processFits program state roll) count
 
-abbrev pub Fit : List ℕ → List ℕ → List ℕ → ℕ → Type 0
-Fit table state roll count = (q : ℕ) → q < count → processFits table state roll q ≡ true
+abbrev pub Fit : Program → List ℕ → List ℕ → ℕ → Type 0
+Fit program state roll count = (q : ℕ) → q < count → processFits program state roll q ≡ true
 
 -- process p has moved: a leave that it uncovered is all that is left to ask about
-pub record MovedOn (table state roll : List ℕ) (count p : ℕ) : Type 0 where
-  pub others : (q : ℕ) → q < count → q ≢ p → processFits table state roll q ≡ true
-  pub own : processFits table state roll p ≡ leaveFits table (processAt state p)
+pub record MovedOn (program : Program) (state roll : List ℕ) (count p : ℕ) : Type 0 where
+  pub others : (q : ℕ) → q < count → q ≢ p → processFits program state roll q ≡ true
+  pub own : processFits program state roll p ≡ leaveFits program (processAt state p)
   pub stacked : Stacked (processAt state p)
-  pub statement : isStatement table (top (processAt state p)) ≡ true
+  pub statement : isStatement program (top (processAt state p)) ≡ true
 
 -- what a turn of process p with that event leaves of a state and a roll that question 23 held of: after a collective every
 -- process is asked again
-abbrev pub LeftBy : Event → List ℕ → List ℕ → List ℕ → ℕ → ℕ → Type 0
-LeftBy Moved table state roll count p = MovedOn table state roll count p
-LeftBy Finished table state roll count p = Fit table state roll count
-LeftBy (Arrived node) table state roll count p = Fit table state roll count
-LeftBy (Completed node) table state roll count p = Unit {0}
-LeftBy Waiting table state roll count p = Fit table state roll count
-LeftBy Ended table state roll count p = Fit table state roll count
+abbrev pub LeftBy : Event → Program → List ℕ → List ℕ → ℕ → ℕ → Type 0
+LeftBy Moved program state roll count p = MovedOn program state roll count p
+LeftBy Finished program state roll count p = Fit program state roll count
+LeftBy (Arrived node) program state roll count p = Fit program state roll count
+LeftBy (Completed node) program state roll count p = Unit {0}
+LeftBy Waiting program state roll count p = Fit program state roll count
+LeftBy Ended program state roll count p = Fit program state roll count
 
 pub record Turned (table : List ℕ) (header : Header) (state roll : List ℕ) (count p : ℕ) (event : Event) : Type 0 where
   pub read : Read table header
   pub stated : length state ≡ processWords * count
   pub rolled : length roll ≡ arrivalSize * count
   pub within : p < count
-  pub left : LeftBy event table state roll count p
+  pub left : LeftBy event (decode table) state roll count p
 
 -- a turn has left that outcome's state and roll, in which `unfit` is the first process that question 23 fails of
-pub record Makes (table : List ℕ) (outcome : Outcome) (count unfit : ℕ) (state roll : List ℕ) : Type 0 where
+pub record Makes (program : Program) (outcome : Outcome) (count unfit : ℕ) (state roll : List ℕ) : Type 0 where
   pub left : state ≡ outcome .state
   pub written : roll ≡ outcome .roll
-  pub unfit-is : unfit ≡ unfitIn table state roll count
+  pub unfit-is : unfit ≡ unfitIn program state roll count
 
 abbrev pub teamOf : List ℕ → List ℕ → Team
 teamOf state roll = record { state = state; roll = roll }

@@ -11,6 +11,7 @@ ghost use Rattle.rules.specs.Scheduling.{serving, served};
 ghost use Rattle.rules.specs.Step.{teamVerdict, stepTaken};
 ghost use Rattle.machine.specs.Outcomes.{Asked, Ready};
 ghost use Rattle.scheduler.specs.Serving.{service, nextOf, unfitIn, Turned, Makes, teamOf, Serves};
+ghost use Rattle.rules.specs.Table.{decode};
 use loops::has_leave;
 use machine::team::asked;
 use machine::turn::run;
@@ -78,7 +79,7 @@ fn first_left(
     event: Event,
 ) -> usize
     requires { ⌜ Turned (now table) header (now state) (now roll) count p event ⌝ }
-    ensures { λ r. ⌜ r ≡ unfitIn (now (table .entry)) (now (state .entry)) (now (roll .entry)) count ⌝ }
+    ensures { λ r. ⌜ r ≡ unfitIn (decode (now (table .entry))) (now (state .entry)) (now (roll .entry)) count ⌝ }
 {
     match event {
         Event::Moved => {
@@ -110,8 +111,8 @@ fn make_turn(
     leaving: bool,
 ) -> usize
     requires { ⌜ Ready (now table) header (now state) (now roll) count p × (statusAt (now roll) p ≡ running)
-        × (leaving ≡ hasLeave (now table)) ⌝ }
-    ensures { λ r. ⌜ Makes (now (table .entry)) (stepTaken (now (table .entry)) (now (state .entry)) (now (roll .entry)) count p)
+        × (leaving ≡ hasLeave (decode (now table))) ⌝ }
+    ensures { λ r. ⌜ Makes (decode (now (table .entry))) (stepTaken (decode (now (table .entry))) (now (state .entry)) (now (roll .entry)) count p)
         count r (now (state .exit)) (now (roll .exit)) ⌝ }
 {
     let stepped = run(table, header, state, roll, count, p);

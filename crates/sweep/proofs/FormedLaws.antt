@@ -12,7 +12,7 @@ use Rattle.rules.specs.declared.Verdict.the-variants.{Accepted, Refused}
 use Rattle.rules.specs.Acceptance.{bodyFlagged, judgedBy}
 use Rattle.rules.specs.Answers.{refused, _then_}
 use Rattle.rules.specs.Choice.{firstFailing}
-use Rattle.rules.specs.Table.{procedures, nodes, nodeAt, body, expressionAt, statementAt, Statement, nothing}
+use Rattle.rules.specs.Table.{decode, procedures, nodes, nodeAt, body, expressionAt, statementAt, Statement, nothing}
 use Rattle.rules.specs.WellFormed.{isStatement, unnamedZero, expressionFits, statementFits, nodeFits, calledBelow, leaveEnclosed, wellBuilt, wellFormed}
 use Rattle.rules.specs.WellFormed.{question6, question7, question8, question9, question10, question11, question12}
 use Rattle.rules.specs.WellFormed.{question26}
@@ -37,7 +37,7 @@ use Rattle.sweep.proofs.JudgedLaws.{rule-high, judged-least}
 
 -- 2 to 5, 6 to 11, and the rest
 in-parts : (strictly : Bool) (table : List ℕ)
-    → asked strictly table ≡ (shapeVerdict table then (filledVerdict table then callsAsked strictly table))
+    → asked strictly table ≡ (shapeVerdict table then (filledVerdict table then callsAsked strictly (decode table)))
 unfolding asked callsAsked wellFormed wellBuilt shapeVerdict filledVerdict
 in-parts strictly table = simp then-assoc
 
@@ -45,123 +45,123 @@ module _ (strictly : Bool) (table : List ℕ) where
   pub misshapen : {r : Refusal} → shapeVerdict table ≡ Refused r → shapeVerdict table ≡ asked strictly table
   misshapen e = rw (in-parts strictly table, e)
 
-  pub shaped : shapeVerdict table ≡ Accepted → (filledVerdict table then callsAsked strictly table) ≡ asked strictly table
+  pub shaped : shapeVerdict table ≡ Accepted → (filledVerdict table then callsAsked strictly (decode table)) ≡ asked strictly table
   shaped e = rw (in-parts strictly table, e)
 
 -- a table that passes 2 to 11
 module _ {table : List ℕ} {header : Header} (filled : Filled table header) where
-  after7 : (question8 table then (question9 table then (question10 table then question11 table))) ≡ Accepted
+  after7 : (question8 (decode table) then (question9 (decode table) then (question10 (decode table) then question11 (decode table)))) ≡ Accepted
   unfolding filledVerdict
-  after7 = then-rest (question7 table) _ (then-rest (question6 table) _ (filled .passed))
+  after7 = then-rest (question7 (decode table)) _ (then-rest (question6 table) _ (filled .passed))
 
-  after8 : (question9 table then (question10 table then question11 table)) ≡ Accepted
-  after8 = then-rest (question8 table) _ after7
+  after8 : (question9 (decode table) then (question10 (decode table) then question11 (decode table))) ≡ Accepted
+  after8 = then-rest (question8 (decode table)) _ after7
 
-  pub zero-fields : (n : ℕ) → n < nodes table → unnamedZero (nodeAt table n) ≡ true
-  zero-fields = each-passed 8 (nodes table) (λ n. unnamedZero (nodeAt table n)) (then-first (question8 table) _ after7)
+  pub zero-fields : (n : ℕ) → n < nodes (decode table) → unnamedZero (nodeAt (decode table) n) ≡ true
+  zero-fields = each-passed 8 (nodes (decode table)) (λ n. unnamedZero (nodeAt (decode table) n)) (then-first (question8 (decode table)) _ after7)
 
   pub fits : Fitting table header
   unfolding filledVerdict
   fits =
       fitting table header (filled .sized) (then-first (question6 table) _ (filled .passed))
-      (then-first (question9 table) _ after8)
+      (then-first (question9 (decode table)) _ after8)
 
-  pub body-sort : (p : ℕ) → p < procedures table → isStatement table (body table p) ≡ true
+  pub body-sort : (p : ℕ) → p < procedures (decode table) → isStatement (decode table) (body (decode table) p) ≡ true
   body-sort =
-      each-passed 10 (procedures table) (λ p. isStatement table (body table p))
-      (then-first (question10 table) _ (then-rest (question9 table) _ after8))
+      each-passed 10 (procedures (decode table)) (λ p. isStatement (decode table) (body (decode table) p))
+      (then-first (question10 (decode table)) _ (then-rest (question9 (decode table)) _ after8))
 
-  pub none-miscalled : question12 table ≡ Accepted
-      → header .nodes ≡ firstFailing (λ n. calledBelow table n (statementAt table n)) (nodes table)
+  pub none-miscalled : question12 (decode table) ≡ Accepted
+      → header .nodes ≡ firstFailing (λ n. calledBelow (decode table) n (statementAt (decode table) n)) (nodes (decode table))
   none-miscalled passed =
-      let test : ℕ → Bool = λ n. calledBelow table n (statementAt table n) in
-      filled .sized .nodes-read ∙ sym (first-none test (nodes table) (each-passed 12 (nodes table) test passed))
+      let test : ℕ → Bool = λ n. calledBelow (decode table) n (statementAt (decode table) n) in
+      filled .sized .nodes-read ∙ sym (first-none test (nodes (decode table)) (each-passed 12 (nodes (decode table)) test passed))
 
 -- 13 to 17 by a reading, from the plane of facts and the least refusal of 13 to 16, without and with a look at leaves
 module _ {table : List ℕ} {header : Header} (filled : Filled table header) (reading : ℕ → Statement)
-    (each : (k : ℕ) → (reading k ≡ statementAt table k) ⊎ (reading k ≡ nothing)) {facts : List ℕ}
-    (kept : FactsTo table reading (nodes table) facts) where
-  effect-flag : (p : ℕ) → p < procedures table → effectCode table facts p ≡ flagCode table reading p
+    (each : (k : ℕ) → (reading k ≡ statementAt (decode table) k) ⊎ (reading k ≡ nothing)) {facts : List ℕ}
+    (kept : FactsTo (decode table) reading (nodes (decode table)) facts) where
+  effect-flag : (p : ℕ) → p < procedures (decode table) → effectCode (decode table) facts p ≡ flagCode (decode table) reading p
   unfolding effectCode flagCode bodyFlagged
   effect-flag p l =
-      rw (kept .known (body table p) (fits filled .bodies p l), fact-statement table reading (body table p) (body-sort filled p l))
+      rw (kept .known (body (decode table) p) (fits filled .bodies p l), fact-statement (decode table) reading (body (decode table) p) (body-sort filled p l))
 
-  rules-whole : min (leastBelow (guardCode table reading) (nodes table)) (leastBelow (leftCode table reading) (nodes table))
-      ≡ leastBelow (ruleCode table reading) (nodes table)
+  rules-whole : min (leastBelow (guardCode (decode table) reading) (nodes (decode table))) (leastBelow (leftCode (decode table) reading) (nodes (decode table)))
+      ≡ leastBelow (ruleCode (decode table) reading) (nodes (decode table))
   unfolding nodeFits
   rules-whole =
-      sym (least-both (guardCode table reading) (leftCode table reading) (nodes table))
-      ∙ least-same (λ n. min (guardCode table reading n) (leftCode table reading n)) (ruleCode table reading) (nodes table)
+      sym (least-both (guardCode (decode table) reading) (leftCode (decode table) reading) (nodes (decode table)))
+      ∙ least-same (λ n. min (guardCode (decode table) reading n) (leftCode (decode table) reading n)) (ruleCode (decode table) reading) (nodes (decode table))
       (λ n l.
       let few : n < 65536 = omega (arith, filled .sized .nodes-high) in
-      rule-whole table reading n few each
-      (both-right (expressionFits table n (expressionAt table n)) (statementFits table n (statementAt table n)) (fits filled .fits n l))
-      (rule-high table reading n few))
+      rule-whole (decode table) reading n few each
+      (both-right (expressionFits (decode table) n (expressionAt (decode table) n)) (statementFits (decode table) n (statementAt (decode table) n)) (fits filled .fits n l))
+      (rule-high (decode table) reading n few))
 
-  pub judged-verdict : {guards rule least : ℕ} → guards ≡ leastBelow (guardCode table reading) (nodes table)
-      → rule ≡ min guards (leastBelow (leftCode table reading) (nodes table))
-      → least ≡ min rule (leastBelow (effectCode table facts) (procedures table))
-      → verdictOf least ≡ judgedBy table reading
+  pub judged-verdict : {guards rule least : ℕ} → guards ≡ leastBelow (guardCode (decode table) reading) (nodes (decode table))
+      → rule ≡ min guards (leastBelow (leftCode (decode table) reading) (nodes (decode table)))
+      → least ≡ min rule (leastBelow (effectCode (decode table) facts) (procedures (decode table)))
+      → verdictOf least ≡ judgedBy (decode table) reading
   judged-verdict of-guards of-leaves found =
-      let flags = least-same (effectCode table facts) (flagCode table reading) (procedures table) effect-flag in
+      let flags = least-same (effectCode (decode table) facts) (flagCode (decode table) reading) (procedures (decode table)) effect-flag in
       let sized = filled .sized in
       rw (found, of-leaves, of-guards, rules-whole, flags)
-      (judged-least table reading (omega (arith, sized .nodes-high)) (omega (arith, sized .procedures-high)) .0)
+      (judged-least (decode table) reading (omega (arith, sized .nodes-high)) (omega (arith, sized .procedures-high)) .0)
 
 -- a well-formed table passes 2 to 11
 pub well-filled : {table : List ℕ} {header : Header} → wellFormed table ≡ Accepted → header ≡ headerOf table → Filled table header
 unfolding asked
 well-filled {table} well headed =
-    let parts : (shapeVerdict table then (filledVerdict table then callsAsked false table)) ≡ Accepted =
+    let parts : (shapeVerdict table then (filledVerdict table then callsAsked false (decode table))) ≡ Accepted =
     sym (in-parts false table) ∙ rw well refl in
-    let shaped = then-first (shapeVerdict table) (filledVerdict table then callsAsked false table) parts in
+    let shaped = then-first (shapeVerdict table) (filledVerdict table then callsAsked false (decode table)) parts in
     record {
       sized = rw headed (sized table shaped);
       shaped = shaped;
       passed =
-          then-first (filledVerdict table) (callsAsked false table)
-          (then-rest (shapeVerdict table) (filledVerdict table then callsAsked false table) parts);
+          then-first (filledVerdict table) (callsAsked false (decode table))
+          (then-rest (shapeVerdict table) (filledVerdict table then callsAsked false (decode table)) parts);
     }
 
 -- a table that passes 2 to 12
-pub well-built : {table : List ℕ} {header : Header} → Filled table header → question12 table ≡ Accepted
+pub well-built : {table : List ℕ} {header : Header} → Filled table header → question12 (decode table) ≡ Accepted
     → wellBuilt table ≡ Accepted
 unfolding wellBuilt shapeVerdict filledVerdict
 well-built {table} filled passed =
-    let whole : wellBuilt table ≡ (shapeVerdict table then (filledVerdict table then question12 table)) = simp then-assoc in
+    let whole : wellBuilt table ≡ (shapeVerdict table then (filledVerdict table then question12 (decode table))) = simp then-assoc in
     whole ∙ simp (filled .shaped, filled .passed, passed)
 
 -- 12, 26 and 13 to 17 from the first call that fails 12 and the first leave that fails 26
 module _ {table : List ℕ} {header : Header} (sized : Sized table header) {call : ℕ}
-    (found : call ≡ firstFailing (λ n. calledBelow table n (statementAt table n)) (nodes table)) (strictly : Bool) where
-  pub refused12 : call < header .nodes → refused 12 call ≡ callsAsked strictly table
+    (found : call ≡ firstFailing (λ n. calledBelow (decode table) n (statementAt (decode table) n)) (nodes (decode table))) (strictly : Bool) where
+  pub refused12 : call < header .nodes → refused 12 call ≡ callsAsked strictly (decode table)
   unfolding callsAsked
   refused12 l =
-      let inside : call < nodes table = omega (arith, sized .nodes-read) in
-      simp (each-refused 12 (nodes table) (λ n. calledBelow table n (statementAt table n)) call found inside)
+      let inside : call < nodes (decode table) = omega (arith, sized .nodes-read) in
+      simp (each-refused 12 (nodes (decode table)) (λ n. calledBelow (decode table) n (statementAt (decode table) n)) call found inside)
 
-  pub accepted12 : header .nodes ≤ call → question12 table ≡ Accepted
+  pub accepted12 : header .nodes ≤ call → question12 (decode table) ≡ Accepted
   accepted12 l =
-      let past : nodes table ≤ call = omega (arith, sized .nodes-read) in
-      each-accepted 12 (nodes table) (λ n. calledBelow table n (statementAt table n)) call found past
+      let past : nodes (decode table) ≤ call = omega (arith, sized .nodes-read) in
+      each-accepted 12 (nodes (decode table)) (λ n. calledBelow (decode table) n (statementAt (decode table) n)) call found past
 
-  module _ (past : header .nodes ≤ call) {leave : ℕ} (loose : leave ≡ firstFailing (leaveEnclosed table) (nodes table)) where
-    pub refused26 : leave < header .nodes → refused 26 leave ≡ callsAsked strictly table
+  module _ (past : header .nodes ≤ call) {leave : ℕ} (loose : leave ≡ firstFailing (leaveEnclosed (decode table)) (nodes (decode table))) where
+    pub refused26 : leave < header .nodes → refused 26 leave ≡ callsAsked strictly (decode table)
     unfolding callsAsked
     refused26 l =
-        let inside : leave < nodes table = omega (arith, sized .nodes-read) in
-        simp (accepted12 past, each-refused 26 (nodes table) (leaveEnclosed table) leave loose inside)
+        let inside : leave < nodes (decode table) = omega (arith, sized .nodes-read) in
+        simp (accepted12 past, each-refused 26 (nodes (decode table)) (leaveEnclosed (decode table)) leave loose inside)
 
-    accepted26 : header .nodes ≤ leave → question26 table ≡ Accepted
+    accepted26 : header .nodes ≤ leave → question26 (decode table) ≡ Accepted
     accepted26 l =
-        let after : nodes table ≤ leave = omega (arith, sized .nodes-read) in
-        each-accepted 26 (nodes table) (leaveEnclosed table) leave loose after
+        let after : nodes (decode table) ≤ leave = omega (arith, sized .nodes-read) in
+        each-accepted 26 (nodes (decode table)) (leaveEnclosed (decode table)) leave loose after
 
-    pub unjudged : header .nodes ≤ leave → strictly ≡ false → Accepted ≡ callsAsked strictly table
+    pub unjudged : header .nodes ≤ leave → strictly ≡ false → Accepted ≡ callsAsked strictly (decode table)
     unfolding callsAsked
     unjudged l e = simp (accepted12 past, accepted26 l, e)
 
-    pub judged-next : header .nodes ≤ leave → strictly ≡ true → judgedBy table (statementAt table) ≡ callsAsked strictly table
+    pub judged-next : header .nodes ≤ leave → strictly ≡ true → judgedBy (decode table) (statementAt (decode table)) ≡ callsAsked strictly (decode table)
     unfolding callsAsked
     judged-next l e = simp (accepted12 past, accepted26 l, e)
 

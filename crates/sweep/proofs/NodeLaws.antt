@@ -10,10 +10,10 @@ use lib.Dec.{ltb}
 use lib.ListN.{length, replicate}
 use borrow.Author.Tests.{ltb-true}
 use borrow.Rule.Slice.PartMut.{putMid}
-use Rattle.rules.specs.Table.{procedures, nodes, body, statementAt, Statement}
+use Rattle.rules.specs.Table.{Program, decode, procedures, nodes, body, statementAt, Statement}
 use Rattle.rules.specs.WellFormed.{partsAt, occurrences}
 use Rattle.rules.proofs.ChoiceLaws.{bool-cases}
-use Rattle.rules.proofs.LoopLaws.{either-cases}
+use Rattle.rules.proofs.AnywhereLaws.{either-cases}
 use Rattle.calls.specs.Blocks.{Blocks, more}
 use Rattle.calls.specs.Blocks
 use Rattle.calls.proofs.BlockLaws.{blocks-called}
@@ -44,7 +44,7 @@ visiting first n =
 
 module _ (table : List ℕ) (first : Visit) (end start : ℕ) (before : List ℕ) where
   pub going-none : first .node ≤ end → length before ≡ allPlanes → start ≤ none
-      → Going table first end start before before (first .node) start
+      → Going (decode table) first end start before before (first .node) start
   going-none inside size low =
       record {
         from = omega arith;
@@ -58,14 +58,14 @@ module _ (table : List ℕ) (first : Visit) (end start : ℕ) (before : List ℕ
         used = λ k l e. inl e;
       }
 
-  pub going-more : Sized table (first .header) → end ≤ nodes table
+  pub going-more : Sized table (first .header) → end ≤ nodes (decode table)
       → (n rule found rule′ : ℕ) (now after : List ℕ)
-      → Going table first end start before now n rule
+      → Going (decode table) first end start before now n rule
       → n < end
-      → Visited table (visiting first n) now after found
+      → Visited (decode table) (visiting first n) now after found
       → (found ≡ 0 → ⊥)
       → rule′ ≡ min rule found
-      → Going table first end start before after (n + 1) rule′
+      → Going (decode table) first end start before after (n + 1) rule′
   going-more sized all n rule found rule′ now after g inside visited taken least =
       record {
         from = omega (arith, g .from);
@@ -84,36 +84,36 @@ module _ (table : List ℕ) (first : Visit) (end start : ℕ) (before : List ℕ
             let new = visited .facts taken (last-of n (g .from) reading) (old .facts) in
             record {
               facts = new .0;
-              least = least ∙ rw (old .least, new .1) (sym (least-more (guardCode table (reading .counts)) n));
+              least = least ∙ rw (old .least, new .1) (sym (least-more (guardCode (decode table) (reading .counts)) n));
             };
         used = λ k low e.
             ⊎-elim
             (λ (h : bitAt (usedPlane now) k ≡ true). used-before k low h)
-            (λ (h : ltb 0 (occurrences k (partsAt table n)) ≡ true). inr (n, omega arith, omega (arith, ltb-true 0 (occurrences k (partsAt table n)) h)))
-            (either-cases (bitAt (usedPlane now) k) (ltb 0 (occurrences k (partsAt table n)))
-            (sym (bits-at (usedPlane now) (partsAt table n) k (omega (arith, used-length now (g .size))))
+            (λ (h : ltb 0 (occurrences k (partsAt (decode table) n)) ≡ true). inr (n, omega arith, omega (arith, ltb-true 0 (occurrences k (partsAt (decode table) n)) h)))
+            (either-cases (bitAt (usedPlane now) k) (ltb 0 (occurrences k (partsAt (decode table) n)))
+            (sym (bits-at (usedPlane now) (partsAt (decode table) n) k (omega (arith, used-length now (g .size))))
             ∙ rw (visited .taken taken .used) at e));
       }
     where
       used-before : (k : ℕ) → k < 256 → bitAt (usedPlane now) k ≡ true
-          → (bitAt (usedPlane before) k ≡ true) ⊎ ((m : ℕ) × (m < n + 1) × (1 ≤ occurrences k (partsAt table m)))
+          → (bitAt (usedPlane before) k ≡ true) ⊎ ((m : ℕ) × (m < n + 1) × (1 ≤ occurrences k (partsAt (decode table) m)))
       used-before k low e =
           ⊎-elim
           (λ (h : bitAt (usedPlane before) k ≡ true). inl h)
-          (λ (h : (m : ℕ) × (m < n) × (1 ≤ occurrences k (partsAt table m))). inr (h .0, omega (arith, h .1), h .2))
+          (λ (h : (m : ℕ) × (m < n) × (1 ≤ occurrences k (partsAt (decode table) m))). inr (h .0, omega (arith, h .1), h .2))
           (g .used k low e)
 
 -- before the first node
-pub ruled-none : (table : List ℕ) (reading : ℕ → Statement) → RuledTo table reading 0 none (replicate allPlanes 0)
+pub ruled-none : (program : Program) (reading : ℕ → Statement) → RuledTo program reading 0 none (replicate allPlanes 0)
 unfolding leastBelow
-ruled-none table reading = record { facts = plane-none _; least = refl }
+ruled-none program reading = record { facts = plane-none _; least = refl }
 
-kept-none : (table : List ℕ) → KeptTo table 0 none (replicate allPlanes 0)
-kept-none table = record { noted = plane-none _; ruled = ruled-none table _ }
+kept-none : (program : Program) → KeptTo program 0 none (replicate allPlanes 0)
+kept-none program = record { noted = plane-none _; ruled = ruled-none program _ }
 
 -- it does not change with the plane of the nodes used
-pub kept-put : {table : List ℕ} {n rule : ℕ} (planes : List ℕ) (size : length planes ≡ allPlanes) (words : List ℕ)
-    (many : length words ≡ planeWords) → KeptTo table n rule planes → KeptTo table n rule (putMid 0 planeWords planes words)
+pub kept-put : {program : Program} {n rule : ℕ} (planes : List ℕ) (size : length planes ≡ allPlanes) (words : List ℕ)
+    (many : length words ≡ planeWords) → KeptTo program n rule planes → KeptTo program n rule (putMid 0 planeWords planes words)
 kept-put planes size words many kept =
     record {
       noted = rw (leaves-put-used planes size words many) (kept .noted);
@@ -125,49 +125,49 @@ kept-put planes size words many kept =
     }
 
 -- where each counts as what it is
-kept-on : {table : List ℕ} {first : Visit} {end start n rule : ℕ} {before after : List ℕ}
-    → Going table first end start before after n rule → KeptTo table (first .node) start before → KeptTo table n rule after
-kept-on {table} {first} {n = n} g so-far =
+kept-on : {program : Program} {first : Visit} {end start n rule : ℕ} {before after : List ℕ}
+    → Going program first end start before after n rule → KeptTo program (first .node) start before → KeptTo program n rule after
+kept-on {program} {first} {n = n} g so-far =
     record {
       noted = g .noted (so-far .noted);
-      ruled = g .ruled (whole table (first .node) n) (so-far .ruled);
+      ruled = g .ruled (whole program (first .node) n) (so-far .ruled);
     }
 
 -- block by block: the blocks of the procedures below p end before node n
 
-pub record Blocking (table : List ℕ) (planes : List ℕ) (n p rule : ℕ) : Type 0 where
-  pub to : n ≤ nodes table
-  pub within : p ≤ procedures table
+pub record Blocking (program : Program) (planes : List ℕ) (n p rule : ℕ) : Type 0 where
+  pub to : n ≤ nodes program
+  pub within : p ≤ procedures program
   pub size : length planes ≡ allPlanes
   pub low : rule ≤ none
-  pub marks : SweptTo table n none (usedPlane planes)
-  pub kept : KeptTo table n rule planes
-  pub blocks : Blocks table n p
+  pub marks : SweptTo program n none (usedPlane planes)
+  pub kept : KeptTo program n rule planes
+  pub blocks : Blocks program n p
 
 -- the block of procedure p, where there is one from node n on
-pub block-is : (table : List ℕ) (p n end : ℕ) → end ≡ cond (ltb (body table p) (nodes table)) (body table p + 1) 0 → n < end
-    → (end ≡ body table p + 1) × (body table p < nodes table)
-block-is table p n end e inside =
+pub block-is : (program : Program) (p n end : ℕ) → end ≡ cond (ltb (body program p) (nodes program)) (body program p + 1) 0 → n < end
+    → (end ≡ body program p + 1) × (body program p < nodes program)
+block-is program p n end e inside =
     ⊎-elim
-    (λ (h : ltb (body table p) (nodes table) ≡ true). (e ∙ simp h, ltb-true _ _ h))
-    (λ (h : ltb (body table p) (nodes table) ≡ false). let z : end ≡ 0 = e ∙ simp h in absurd (omega arith))
-    (bool-cases (ltb (body table p) (nodes table)))
+    (λ (h : ltb (body program p) (nodes program) ≡ true). (e ∙ simp h, ltb-true _ _ h))
+    (λ (h : ltb (body program p) (nodes program) ≡ false). let z : end ≡ 0 = e ∙ simp h in absurd (omega arith))
+    (bool-cases (ltb (body program p) (nodes program)))
 
-module _ (table : List ℕ) where
-  pub blocking-none : Blocking table (replicate allPlanes 0) 0 0 none
+module _ (program : Program) where
+  pub blocking-none : Blocking program (replicate allPlanes 0) 0 0 none
   blocking-none =
       record {
         to = omega arith;
         within = omega arith;
         size = refl;
         low = omega arith;
-        marks = swept-none table;
-        kept = kept-none table;
+        marks = swept-none program;
+        kept = kept-none program;
         blocks = Blocks.none;
       }
 
-  module _ {planes : List ℕ} {n p rule : ℕ} (b : Blocking table planes n p rule) where
-    pub blocking-stops : InBlocks table planes (record { node = n; rule = rule; ordered = false })
+  module _ {planes : List ℕ} {n p rule : ℕ} (b : Blocking program planes n p rule) where
+    pub blocking-stops : InBlocks program planes (record { node = n; rule = rule; ordered = false })
     blocking-stops =
         record {
           to = b .to;
@@ -178,7 +178,7 @@ module _ (table : List ℕ) where
           called = λ e. never (sym e);
         }
 
-    pub blocking-ends : p ≡ procedures table → InBlocks table planes (record { node = n; rule = rule; ordered = true })
+    pub blocking-ends : p ≡ procedures program → InBlocks program planes (record { node = n; rule = rule; ordered = true })
     blocking-ends all =
         record {
           to = b .to;
@@ -186,15 +186,15 @@ module _ (table : List ℕ) where
           low = b .low;
           marks = b .marks;
           kept = b .kept;
-          called = λ e. blocks-called table n (rw all at (b .blocks));
+          called = λ e. blocks-called program n (rw all at (b .blocks));
         }
 
     abbrev in-block : Header → Visit
     in-block header = record { header = header; node = n; limit = p }
 
-    module _ (header : Header) (end : ℕ) (within : end ≤ nodes table) (after : List ℕ) (r : Reached)
-        (q : Quickly table (in-block header) end rule planes after r) where
-      pub block-stops : InBlocks table after (record { node = r .node; rule = r .rule; ordered = false })
+    module _ (header : Header) (end : ℕ) (within : end ≤ nodes program) (after : List ℕ) (r : Reached)
+        (q : Quickly program (in-block header) end rule planes after r) where
+      pub block-stops : InBlocks program after (record { node = r .node; rule = r .rule; ordered = false })
       block-stops =
           record {
             to = omega (arith, q .going .to);
@@ -205,10 +205,10 @@ module _ (table : List ℕ) where
             called = λ e. never (sym e);
           }
 
-      pub block-more : p < procedures table → n < end → end ≡ body table p + 1 → (r .node < end → ⊥)
-          → Blocking table after (r .node) (p + 1) (r .rule)
+      pub block-more : p < procedures program → n < end → end ≡ body program p + 1 → (r .node < end → ⊥)
+          → Blocking program after (r .node) (p + 1) (r .rule)
       block-more here inside last whole =
-          let all : r .node ≡ body table p + 1 = omega (arith, q .going .to) in
+          let all : r .node ≡ body program p + 1 = omega (arith, q .going .to) in
           record {
             to = omega (arith, q .going .to);
             within = omega arith;
@@ -223,22 +223,22 @@ module _ (table : List ℕ) where
 
 -- the nodes from there on, wherever they stand
 
-pub record Resting (table : List ℕ) (planes : List ℕ) (best : ℕ) (r : Reached) : Type 0 where
-  pub to : r .node ≤ nodes table
+pub record Resting (program : Program) (planes : List ℕ) (best : ℕ) (r : Reached) : Type 0 where
+  pub to : r .node ≤ nodes program
   pub size : length planes ≡ allPlanes
   pub low : r .rule ≤ none
   pub high : best ≤ none
-  pub marks : SweptTo table (r .node) best (usedPlane planes)
-  pub kept : best ≡ none → KeptTo table (r .node) (r .rule) planes
-  pub stuck : r .node < nodes table → Fails table (r .node) planes
+  pub marks : SweptTo program (r .node) best (usedPlane planes)
+  pub kept : best ≡ none → KeptTo program (r .node) (r .rule) planes
+  pub stuck : r .node < nodes program → Fails program (r .node) planes
 
 module _ (table : List ℕ) (header : Header) (sized : Sized table header) where
   abbrev from-node : ℕ → Visit
   from-node n = record { header = header; node = n; limit = header .procedures }
 
-  pub resting-none : (blocked : Blocked) (planes after : List ℕ) (r : Reached) → InBlocks table planes blocked
-      → Quickly table (from-node (blocked .node)) (header .nodes) (blocked .rule) planes after r
-      → Resting table after none r
+  pub resting-none : (blocked : Blocked) (planes after : List ℕ) (r : Reached) → InBlocks (decode table) planes blocked
+      → Quickly (decode table) (from-node (blocked .node)) (header .nodes) (blocked .rule) planes after r
+      → Resting (decode table) after none r
   resting-none blocked planes after r b q =
       record {
         to = omega (arith, q .going .to, sized .nodes-read);
@@ -250,19 +250,19 @@ module _ (table : List ℕ) (header : Header) (sized : Sized table header) where
         stuck = λ inside. q .stuck (omega (arith, sized .nodes-read)) (sized .procedures-read);
       }
 
-  pub resting-more : (planes words after : List ℕ) (best best′ : ℕ) (now r : Reached) → Resting table planes best now
-      → now .node < nodes table
-      → best′ ≡ nodeBest table (now .node) (usedPlane planes) best
-      → words ≡ nodeMarks table (now .node) (usedPlane planes)
-      → Quickly table (from-node (now .node + 1)) (header .nodes) (now .rule) (putMid 0 planeWords planes words) after r
-      → Resting table after best′ r
+  pub resting-more : (planes words after : List ℕ) (best best′ : ℕ) (now r : Reached) → Resting (decode table) planes best now
+      → now .node < nodes (decode table)
+      → best′ ≡ nodeBest (decode table) (now .node) (usedPlane planes) best
+      → words ≡ nodeMarks (decode table) (now .node) (usedPlane planes)
+      → Quickly (decode table) (from-node (now .node + 1)) (header .nodes) (now .rule) (putMid 0 planeWords planes words) after r
+      → Resting (decode table) after best′ r
   resting-more planes words after best best′ now r s inside found noted q =
       let fails : best′ < none = rw found (s .stuck inside best (s .high)) in
       let many : length words ≡ planeWords =
-      ap length noted ∙ node-length table (now .node) (usedPlane planes) ∙ used-length planes (s .size) in
-      let swept : SweptTo table (now .node + 1) best′ (usedPlane (putMid 0 planeWords planes words)) =
+      ap length noted ∙ node-length (decode table) (now .node) (usedPlane planes) ∙ used-length planes (s .size) in
+      let swept : SweptTo (decode table) (now .node + 1) best′ (usedPlane (putMid 0 planeWords planes words)) =
       rw (used-put-used planes (s .size) words many, found, noted)
-      (node-swept table (sized .nodes-high) (now .node) inside best (usedPlane planes) (s .marks)) in
+      (node-swept (decode table) (sized .nodes-high) (now .node) inside best (usedPlane planes) (s .marks)) in
       record {
         to = omega (arith, q .going .to, sized .nodes-read);
         size = q .going .size;
@@ -274,11 +274,11 @@ module _ (table : List ℕ) (header : Header) (sized : Sized table header) where
       }
 
   pub resting-ends : (planes before : List ℕ) (best : ℕ) (now : Reached) (blocked : Blocked)
-      → Resting table planes best now
-      → (now .node < header .nodes → ⊥) → InBlocks table before blocked
-      → AllNodes table planes (record { best = best; rule = now .rule; ordered = blocked .ordered })
+      → Resting (decode table) planes best now
+      → (now .node < header .nodes → ⊥) → InBlocks (decode table) before blocked
+      → AllNodes (decode table) planes (record { best = best; rule = now .rule; ordered = blocked .ordered })
   resting-ends planes before best now blocked s end b =
-      let all : now .node ≡ nodes table = omega (arith, s .to, sized .nodes-read) in
+      let all : now .node ≡ nodes (decode table) = omega (arith, s .to, sized .nodes-read) in
       record {
         size = s .size;
         marks = rw all at (s .marks);

@@ -9,7 +9,7 @@ use native.Mathlib.Numerals.{add-one}
 use native.Mathlib.Omega.{arith}
 use lib.Dec.{ltb}
 use borrow.Author.Tests.{lt-ltb, le-ltb}
-use Rattle.rules.specs.Table.{nodes, nodeAt}
+use Rattle.rules.specs.Table.{Program, nodes, nodeAt}
 use Rattle.rules.specs.WellFormed.{kindKnown, unnamedZero, nodeFits, partsAt, joined}
 use Rattle.rules.proofs.ChoiceLaws.{bool-cases}
 use Rattle.table.specs.Marks.{bitAt, withBit, withBits}
@@ -93,39 +93,39 @@ module _ {count early best : ℕ} {list marks : List ℕ} (few : count ≤ 256) 
 
 -- a node
 
-field-inside : (table : List ℕ) (n count role value : ℕ) → n < count → fieldFits table n role value ≡ true
+field-inside : (program : Program) (n count role value : ℕ) → n < count → fieldFits program n role value ≡ true
     → Inside count (fieldParts role value)
 unfolding fieldParts
-field-inside table n count role value below fits =
+field-inside program n count role value below fits =
     ⊎-elim
     (λ (e : (isPart role) ≡ true).
-    simp e (more {n = value} (omega (arith, part-below table n role value fits e)) empty))
+    simp e (more {n = value} (omega (arith, part-below program n role value fits e)) empty))
     (λ (e : (isPart role) ≡ false). simp e empty)
     (bool-cases (isPart role))
 
-parts-inside : (table : List ℕ) (n count : ℕ) → n < count → nodeFits table n ≡ true → Inside count (partsAt table n)
-parts-inside table n count below fits =
-    let m = nodeAt table n in
-    let fit = fields-fit table n fits in
-    rw (parts-law table n)
-    (inside-append (field-inside table n count (roleOf (m .kind) 100) (m .a) below (fit .0))
-    (inside-append (field-inside table n count (roleOf (m .kind) 10) (m .b) below (fit .1))
-    (field-inside table n count (roleOf (m .kind) 1) (m .c) below (fit .2))))
+parts-inside : (program : Program) (n count : ℕ) → n < count → nodeFits program n ≡ true → Inside count (partsAt program n)
+parts-inside program n count below fits =
+    let m = nodeAt program n in
+    let fit = fields-fit program n fits in
+    rw (parts-law program n)
+    (inside-append (field-inside program n count (roleOf (m .kind) 100) (m .a) below (fit .0))
+    (inside-append (field-inside program n count (roleOf (m .kind) 10) (m .b) below (fit .1))
+    (field-inside program n count (roleOf (m .kind) 1) (m .c) below (fit .2))))
 
 pub joined-more : (list : ℕ → List ℕ) (n : ℕ) → joined list (n + 1) ≡ joined list n ++ list n
 unfolding joined
 joined-more list n = rw (add-one n)
 
-module _ (table : List ℕ) (few : nodes table ≤ 256) (n : ℕ) (below : n < nodes table) (best : ℕ) (marks : List ℕ) where
+module _ (program : Program) (few : nodes program ≤ 256) (n : ℕ) (below : n < nodes program) (best : ℕ) (marks : List ℕ) where
   abbrev Now : Type 0
-  Now = SweptTo table n best marks
+  Now = SweptTo program n best marks
 
   abbrev Next : Type 0
-  Next = SweptTo table (n + 1) (nodeBest table n marks best) (nodeMarks table n marks)
+  Next = SweptTo program (n + 1) (nodeBest program n marks best) (nodeMarks program n marks)
 
-  node-fails : (f : ℕ) → nodeCode table n ≡ f → f < code 11 0 → nodeBest table n marks best ≡ min best f → Now → Next
+  node-fails : (f : ℕ) → nodeCode program n ≡ f → f < code 11 0 → nodeBest program n marks best ≡ min best f → Now → Next
   node-fails f e low answer so-far =
-      rw (least-more (nodeCode table) n, e, answer) (fails few f _ _ low so-far)
+      rw (least-more (nodeCode program) n, e, answer) (fails few f _ _ low so-far)
 
   least8 : (fits : Bool) → min none (min (code 8 n) (failure 9 n fits)) ≡ code 8 n
   least8 true = omega arith
@@ -137,32 +137,32 @@ module _ (table : List ℕ) (few : nodes table ≤ 256) (n : ℕ) (below : n < n
   least7 false true = omega arith
   least7 false false = omega arith
 
-  node-passes : kindKnown table n ≡ true → unnamedZero (nodeAt table n) ≡ true → nodeFits table n ≡ true → Now → Next
+  node-passes : kindKnown program n ≡ true → unnamedZero (nodeAt program n) ≡ true → nodeFits program n ≡ true → Now → Next
   unfolding nodeCode nodeBest nodeMarks
   node-passes known unnamed fits so-far =
-      let passed : nodeCode table n ≡ none = simp (known, unnamed, fits) (omega arith) in
-      let high : min (leastBelow (nodeCode table) n) none ≡ leastBelow (nodeCode table) n =
-      omega (arith, least-high (nodeCode table) n) in
+      let passed : nodeCode program n ≡ none = simp (known, unnamed, fits) (omega arith) in
+      let high : min (leastBelow (nodeCode program) n) none ≡ leastBelow (nodeCode program) n =
+      omega (arith, least-high (nodeCode program) n) in
       simp (known, unnamed, fits)
-      (rw (least-more (nodeCode table) n, passed, high, joined-more (partsAt table) n)
-      (passes few (partsAt table n) (λ e. parts-inside table n (nodes table) below fits) so-far))
+      (rw (least-more (nodeCode program) n, passed, high, joined-more (partsAt program) n)
+      (passes few (partsAt program n) (λ e. parts-inside program n (nodes program) below fits) so-far))
 
   pub node-swept : Now → Next
   unfolding nodeCode nodeBest
   node-swept so-far =
       ⊎-elim
-      (λ (known : kindKnown table n ≡ true).
+      (λ (known : kindKnown program n ≡ true).
       ⊎-elim
-      (λ (zero : unnamedZero (nodeAt table n) ≡ true).
+      (λ (zero : unnamedZero (nodeAt program n) ≡ true).
       ⊎-elim
-      (λ (fits : nodeFits table n ≡ true). node-passes known zero fits so-far)
-      (λ (fits : nodeFits table n ≡ false).
+      (λ (fits : nodeFits program n ≡ true). node-passes known zero fits so-far)
+      (λ (fits : nodeFits program n ≡ false).
       node-fails (code 9 n) (simp (known, zero, fits) (omega arith)) (omega arith) (simp (known, zero, fits)) so-far)
-      (bool-cases (nodeFits table n)))
-      (λ (zero : unnamedZero (nodeAt table n) ≡ false).
-      node-fails (code 8 n) (simp (known, zero) (least8 (nodeFits table n))) (omega arith) (simp (known, zero)) so-far)
-      (bool-cases (unnamedZero (nodeAt table n))))
-      (λ (known : kindKnown table n ≡ false).
-      node-fails (code 7 n) (simp known (least7 (unnamedZero (nodeAt table n)) (nodeFits table n))) (omega arith) (simp known)
+      (bool-cases (nodeFits program n)))
+      (λ (zero : unnamedZero (nodeAt program n) ≡ false).
+      node-fails (code 8 n) (simp (known, zero) (least8 (nodeFits program n))) (omega arith) (simp (known, zero)) so-far)
+      (bool-cases (unnamedZero (nodeAt program n))))
+      (λ (known : kindKnown program n ≡ false).
+      node-fails (code 7 n) (simp known (least7 (unnamedZero (nodeAt program n)) (nodeFits program n))) (omega arith) (simp known)
       so-far)
-      (bool-cases (kindKnown table n))
+      (bool-cases (kindKnown program n))

@@ -8,7 +8,7 @@ use lib.ListN.{replicate}
 use Rattle.rules.specs.declared.Verdict.{Verdict}
 use Rattle.rules.specs.Answers.{_then_}
 use Rattle.rules.specs.Choice.{firstFailing}
-use Rattle.rules.specs.Table.{procedures, nodes, body, nodeAt}
+use Rattle.rules.specs.Table.{Program, decode, procedures, nodes, body, nodeAt}
 use Rattle.rules.specs.WellFormed.{procedureFits, isStatement, kindKnown, unnamedZero, nodeFits, partsAt, joined, uses}
 use Rattle.rules.specs.WellFormed.{question6, question7, question8, question9, question10, question11}
 use Rattle.table.specs.Marks.{bitAt, withBit, withBits}
@@ -20,15 +20,15 @@ use Rattle.visit.specs.Least.{none, code, failure, leastBelow, verdictOf}
 -- questions 6 to 11
 unfoldable pub filledVerdict : List ℕ → Verdict
 filledVerdict table =
-    question6 table then question7 table then question8 table then question9 table then question10 table then question11 table
+    question6 table then question7 (decode table) then question8 (decode table) then question9 (decode table) then question10 (decode table) then question11 (decode table)
 
 -- the least refusal of 7 to 9 at a node, and of 6 and 10 at a procedure
-unfoldable pub nodeCode : List ℕ → ℕ → ℕ
-nodeCode table n =
-    min (failure 7 n (kindKnown table n)) (min (failure 8 n (unnamedZero (nodeAt table n))) (failure 9 n (nodeFits table n)))
+unfoldable pub nodeCode : Program → ℕ → ℕ
+nodeCode program n =
+    min (failure 7 n (kindKnown program n)) (min (failure 8 n (unnamedZero (nodeAt program n))) (failure 9 n (nodeFits program n)))
 
 unfoldable pub bodyCode : List ℕ → ℕ → ℕ
-bodyCode table p = min (failure 6 p (procedureFits table p)) (failure 10 p (isStatement table (body table p)))
+bodyCode table p = min (failure 6 p (procedureFits table p)) (failure 10 p (isStatement (decode table) (body (decode table) p)))
 
 -- 11 at the place given, if that is a node
 abbrev pub misused : ℕ → ℕ → ℕ
@@ -46,27 +46,27 @@ module _ (table : List ℕ) (p : ℕ) where
   unfoldable pub bodyBest : List ℕ → ℕ → ℕ
   bodyBest marks best =
       cond (procedureFits table p)
-      (cond (isStatement table (body table p)) (notedCode marks best (body table p)) (min best (code 10 p)))
+      (cond (isStatement (decode table) (body (decode table) p)) (notedCode marks best (body (decode table) p)) (min best (code 10 p)))
       (min best (code 6 p))
 
   unfoldable pub bodyMarks : List ℕ → List ℕ
   bodyMarks marks =
       cond (procedureFits table p)
-      (cond (isStatement table (body table p)) (withBit marks (body table p)) marks)
+      (cond (isStatement (decode table) (body (decode table) p)) (withBit marks (body (decode table) p)) marks)
       marks
 
 -- once the nodes below n are swept, once all are, and once all procedures are too
-abbrev pub SweptTo : List ℕ → ℕ → ℕ → List ℕ → Type 0
-SweptTo table n = Swept (nodes table) (leastBelow (nodeCode table) n) (joined (partsAt table) n)
+abbrev pub SweptTo : Program → ℕ → ℕ → List ℕ → Type 0
+SweptTo program n = Swept (nodes program) (leastBelow (nodeCode program) n) (joined (partsAt program) n)
 
-abbrev pub AfterNodes : List ℕ → ℕ → List ℕ → Type 0
-AfterNodes table = SweptTo table (nodes table)
+abbrev pub AfterNodes : Program → ℕ → List ℕ → Type 0
+AfterNodes program = SweptTo program (nodes program)
 
 abbrev pub earlier : List ℕ → ℕ
-earlier table = min (leastBelow (nodeCode table) (nodes table)) (leastBelow (bodyCode table) (procedures table))
+earlier table = min (leastBelow (nodeCode (decode table)) (nodes (decode table))) (leastBelow (bodyCode table) (procedures (decode table)))
 
 abbrev pub AfterBodies : List ℕ → ℕ → List ℕ → Type 0
-AfterBodies table = Swept (nodes table) (earlier table) (uses table)
+AfterBodies table = Swept (nodes (decode table)) (earlier table) (uses (decode table))
 
 -- 11 of the first node that is not marked, unless an earlier question fails
 unfoldable pub unusedBest : ℕ → List ℕ → ℕ → ℕ

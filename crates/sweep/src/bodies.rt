@@ -2,7 +2,7 @@
 ghost use mathlib.Core.Path.{_≡_};
 ghost use Prim.Native.Nat.{_<_, _≤_, min};
 ghost use lib.ListN.{length};
-ghost use Rattle.rules.specs.Table.{procedures};
+ghost use Rattle.rules.specs.Table.{decode, procedures};
 ghost use Rattle.sweep.specs.Asked.{Filled, effectCode};
 ghost use Rattle.sweep.specs.Swept.{bodyBest, bodyMarks, unusedBest, AfterNodes, AfterBodies, Uses};
 ghost use Rattle.table.specs.Sized.{Sized};
@@ -39,7 +39,7 @@ fn sweep_body(table: &[u8], header: Header, marks: &mut [u32], best: usize, p: u
 }
 
 fn sweep_bodies(table: &[u8], header: Header, marks: &mut [u32], first: usize) -> usize
-    requires { ⌜ Sized (now table) header × (length (now marks) ≡ planeWords) × AfterNodes (now table) first (now marks) ⌝ }
+    requires { ⌜ Sized (now table) header × (length (now marks) ≡ planeWords) × AfterNodes (decode (now table)) first (now marks) ⌝ }
     ensures { λ r. ⌜ AfterBodies (now (table .entry)) r (now (marks .exit)) × (length (now (marks .exit)) ≡ planeWords) × (r ≤ first) ⌝ }
 {
     let count = header.procedures;
@@ -69,7 +69,7 @@ fn unused(marks: &[u32], count: usize, best: usize) -> usize
 
 // The least refusal of 6 to 11 once the nodes are swept.
 pub(crate) fn sweep_uses(table: &[u8], header: Header, marks: &mut [u32], first: usize) -> usize
-    requires { ⌜ Sized (now table) header × (length (now marks) ≡ planeWords) × AfterNodes (now table) first (now marks) ⌝ }
+    requires { ⌜ Sized (now table) header × (length (now marks) ≡ planeWords) × AfterNodes (decode (now table)) first (now marks) ⌝ }
     ensures { λ r. ⌜ Uses (now (table .entry)) first r ⌝ }
 {
     let best = sweep_bodies(table, header, marks, first);
@@ -79,7 +79,7 @@ pub(crate) fn sweep_uses(table: &[u8], header: Header, marks: &mut [u32], first:
 // Question 17 of a procedure, by the fact of its body.
 fn flag_body(table: &[u8], header: Header, planes: &[u32], best: usize, p: usize) -> usize
     requires { ⌜ Filled (now table) header × (p < header .procedures) × (length (now planes) ≡ allPlanes) × (best ≤ none) ⌝ }
-    ensures { λ r. ⌜ r ≡ min best (effectCode (now (table .entry)) (factsPlane (now (planes .entry))) p) ⌝ }
+    ensures { λ r. ⌜ r ≡ min best (effectCode (decode (now (table .entry))) (factsPlane (now (planes .entry))) p) ⌝ }
 {
     if !marked(&planes[PLANE..LEAVES], body(table, p)) {
         return best;
@@ -93,7 +93,7 @@ fn flag_body(table: &[u8], header: Header, planes: &[u32], best: usize, p: usize
 // The least refusal of 13 to 17 from that of 13 to 16.
 pub fn unflagged(table: &[u8], header: Header, planes: &[u32], rule: usize) -> usize
     requires { ⌜ Filled (now table) header × (length (now planes) ≡ allPlanes) × (rule ≤ none) ⌝ }
-    ensures { λ r. ⌜ r ≡ min rule (leastBelow (effectCode (now (table .entry)) (factsPlane (now (planes .entry)))) (procedures (now (table .entry)))) ⌝ }
+    ensures { λ r. ⌜ r ≡ min rule (leastBelow (effectCode (decode (now (table .entry))) (factsPlane (now (planes .entry)))) (procedures (decode (now (table .entry))))) ⌝ }
 {
     let count = header.procedures;
     let mut best = rule;

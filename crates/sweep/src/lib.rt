@@ -6,7 +6,7 @@ ghost use mathlib.Core.Path.{_≡_};
 ghost use lib.ListN.{length, replicate};
 ghost use Rattle.rules.specs.Acceptance.{judgedBy};
 ghost use Rattle.rules.specs.Answers.{_then_};
-ghost use Rattle.rules.specs.Table.{nodes, statementAt};
+ghost use Rattle.rules.specs.Table.{decode, nodes, statementAt};
 ghost use Rattle.rules.specs.WellFormed.{question12, wellFormed};
 ghost use Rattle.rules.specs.declared.Verdict.the-variants.{Accepted};
 ghost use Rattle.sweep.specs.Asked.{Filled, FirstCall, callsAsked, asked};
@@ -59,8 +59,8 @@ pub struct Found {
 
 // Question 12 of a table that passes 2 to 11: the walk only where the bodies do not stand in order, or a call seems to go up.
 fn first_call(table: &[u8], header: Header, planes: &mut [u32], ordered: bool) -> usize
-    requires { ⌜ Filled (now table) header × (length (now planes) ≡ allPlanes) × (ordered ≡ true → question12 (now table) ≡ Accepted) ⌝ }
-    ensures { λ r. ⌜ FirstCall (now (table .entry)) (now (planes .entry)) (now (planes .exit)) r ⌝ }
+    requires { ⌜ Filled (now table) header × (length (now planes) ≡ allPlanes) × (ordered ≡ true → question12 (decode (now table)) ≡ Accepted) ⌝ }
+    ensures { λ r. ⌜ FirstCall (decode (now (table .entry))) (now (planes .entry)) (now (planes .exit)) r ⌝ }
 {
     if ordered {
         return header.nodes;
@@ -77,9 +77,9 @@ fn ask_calls(
     judged: bool,
     found: Found,
 ) -> Verdict
-    requires { ⌜ Filled (now table) header × (length (now planes) ≡ allPlanes) × (found .ordered ≡ true → question12 (now table) ≡ Accepted) ⌝ }
-    requires { ⌜ KeptTo (now table) (nodes (now table)) (found .rule) (now planes) ⌝ }
-    ensures { λ r. ⌜ r ≡ callsAsked judged (now (table .entry)) ⌝ }
+    requires { ⌜ Filled (now table) header × (length (now planes) ≡ allPlanes) × (found .ordered ≡ true → question12 (decode (now table)) ≡ Accepted) ⌝ }
+    requires { ⌜ KeptTo (decode (now table)) (nodes (decode (now table))) (found .rule) (now planes) ⌝ }
+    ensures { λ r. ⌜ r ≡ callsAsked judged (decode (now (table .entry))) ⌝ }
 {
     let call = first_call(table, header, planes, found.ordered);
     if call < header.nodes {
@@ -99,7 +99,7 @@ fn ask_calls(
 // Questions 6 to 12, 26 and 13 to 17 of a table that passes 2 to 5.
 fn ask_contents(table: &[u8], header: Header, planes: &mut [u32], judged: bool) -> Verdict
     requires { ⌜ Sized (now table) header × (shapeVerdict (now table) ≡ Accepted) × (now planes ≡ replicate allPlanes 0) ⌝ }
-    ensures { λ r. ⌜ r ≡ (filledVerdict (now (table .entry)) then callsAsked judged (now (table .entry))) ⌝ }
+    ensures { λ r. ⌜ r ≡ (filledVerdict (now (table .entry)) then callsAsked judged (decode (now (table .entry)))) ⌝ }
 {
     let found = sweep_nodes(table, header, planes);
     let best = sweep_uses(table, header, &mut planes[0..PLANE], found.best);
@@ -132,7 +132,7 @@ pub fn well_formed(table: &[u8], planes: &mut [u32]) -> Verdict
 // Questions 2 to 12, 26 and 13 to 17, where every node counts.
 pub fn accepted(table: &[u8], planes: &mut [u32]) -> Verdict
     requires { ⌜ now planes ≡ replicate allPlanes 0 ⌝ }
-    ensures { λ r. ⌜ r ≡ (wellFormed (now (table .entry)) then judgedBy (now (table .entry)) (statementAt (now (table .entry)))) ⌝ }
+    ensures { λ r. ⌜ r ≡ (wellFormed (now (table .entry)) then judgedBy (decode (now (table .entry))) (statementAt (decode (now (table .entry))))) ⌝ }
 {
     ask(table, planes, true)
 }

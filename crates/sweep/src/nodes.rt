@@ -4,7 +4,7 @@ ghost use mathlib.Core.Path.{_≡_};
 ghost use Prim.Native.Nat.{_+_, _<_, _≤_};
 ghost use lib.Dec.{ltb};
 ghost use lib.ListN.{length, replicate};
-ghost use Rattle.rules.specs.Table.{nodes, body};
+ghost use Rattle.rules.specs.Table.{decode, nodes, body};
 ghost use Rattle.sweep.specs.Nodes.{Quickly, InBlocks, AllNodes};
 ghost use Rattle.table.specs.Sized.{Sized};
 ghost use Rattle.visit.specs.Least.{none};
@@ -32,7 +32,7 @@ pub fn sweep_quickly(
     start: usize,
 ) -> Reached
     requires { ⌜ Sized (now table) (first .header) × (first .node ≤ end) × (end ≤ first .header .nodes) × (length (now planes) ≡ allPlanes) × (start ≤ none) ⌝ }
-    ensures { λ r. ⌜ Quickly (now (table .entry)) first end start (now (planes .entry)) (now (planes .exit)) r ⌝ }
+    ensures { λ r. ⌜ Quickly (decode (now (table .entry))) first end start (now (planes .entry)) (now (planes .exit)) r ⌝ }
 {
     let header = first.header;
     let mut rule = start;
@@ -63,7 +63,7 @@ pub fn sweep_quickly(
 // The end of the block of procedure p, which is the nodes up to its body; 0 where the body is no node.
 fn block_end(table: &[u8], header: Header, p: usize) -> usize
     requires { ⌜ Sized (now table) header × (p < header .procedures) ⌝ }
-    ensures { λ r. ⌜ r ≡ cond (ltb (body (now (table .entry)) p) (nodes (now (table .entry)))) (body (now (table .entry)) p + 1) 0 ⌝ }
+    ensures { λ r. ⌜ r ≡ cond (ltb (body (decode (now (table .entry))) p) (nodes (decode (now (table .entry))))) (body (decode (now (table .entry))) p + 1) 0 ⌝ }
 {
     let last = body(table, p);
     if last < header.nodes { last + 1 } else { 0 }
@@ -72,7 +72,7 @@ fn block_end(table: &[u8], header: Header, p: usize) -> usize
 // Block by block: the nodes up to each body, as long as the bodies stand in their procedures' order and the nodes call lower ones only.
 fn sweep_blocks(table: &[u8], header: Header, planes: &mut [u32]) -> Blocked
     requires { ⌜ Sized (now table) header × (now planes ≡ replicate allPlanes 0) ⌝ }
-    ensures { λ r. ⌜ InBlocks (now (table .entry)) (now (planes .exit)) r ⌝ }
+    ensures { λ r. ⌜ InBlocks (decode (now (table .entry))) (now (planes .exit)) r ⌝ }
 {
     let count = header.procedures;
     let mut rule = NONE;
@@ -113,8 +113,8 @@ fn sweep_blocks(table: &[u8], header: Header, planes: &mut [u32]) -> Blocked
 
 // The nodes from there on, wherever they stand.
 fn sweep_rest(table: &[u8], header: Header, planes: &mut [u32], blocked: Blocked) -> Found
-    requires { ⌜ Sized (now table) header × InBlocks (now table) (now planes) blocked ⌝ }
-    ensures { λ r. ⌜ AllNodes (now (table .entry)) (now (planes .exit)) r ⌝ }
+    requires { ⌜ Sized (now table) header × InBlocks (decode (now table)) (now planes) blocked ⌝ }
+    ensures { λ r. ⌜ AllNodes (decode (now (table .entry))) (now (planes .exit)) r ⌝ }
 {
     let count = header.nodes;
     let limit = header.procedures;
@@ -144,7 +144,7 @@ fn sweep_rest(table: &[u8], header: Header, planes: &mut [u32], blocked: Blocked
 
 pub(crate) fn sweep_nodes(table: &[u8], header: Header, planes: &mut [u32]) -> Found
     requires { ⌜ Sized (now table) header × (now planes ≡ replicate allPlanes 0) ⌝ }
-    ensures { λ r. ⌜ AllNodes (now (table .entry)) (now (planes .exit)) r ⌝ }
+    ensures { λ r. ⌜ AllNodes (decode (now (table .entry))) (now (planes .exit)) r ⌝ }
 {
     let blocked = sweep_blocks(table, header, planes);
     sweep_rest(table, header, planes, blocked)

@@ -11,7 +11,7 @@ use lib.Dec.{ltb, eqb}
 use lib.ListN.{length, replicate, length-replicate}
 use borrow.Author.Tests.{ltb-true, lt-ltb}
 use Rattle.rules.specs.Judgement.{Fixing, fixed, unfixed, fixing, live, counted}
-use Rattle.rules.specs.Table.{procedures, nodes, body, statementAt}
+use Rattle.rules.specs.Table.{Program, procedures, nodes, body, statementAt}
 use Rattle.rules.specs.Table.{Statement, nothing, assign, sequence, branch, loop, call, latch, collective, leave}
 use Rattle.rules.specs.WellFormed.{isExpression, isStatement, partsAt, openParts, occurrences}
 use Rattle.rules.proofs.ChoiceLaws.{bool-cases}
@@ -20,8 +20,9 @@ use Rattle.rules.proofs.HomeLaws.{sequence-statements, branch-statements, loop-
 use Rattle.rules.proofs.LeaveLaws.{Sorted, counted-in, expression-nothing, user, part-sorted}
 use Rattle.rules.proofs.LiveLaws.{Never, never-live, live-up, live-part, live-body, branch-parts, branches-differ}
 use Rattle.rules.proofs.LiveLaws.{live-sequence, live-repeated, counted-live, counted-dead}
-use Rattle.rules.proofs.LoopLaws.{In, in-counted, open-part, body-part, part-low, named-below, either-cases}
-use Rattle.rules.proofs.PartLaws.{either-right}
+use Rattle.rules.proofs.AnywhereLaws.{In, either-cases}
+use Rattle.rules.proofs.LoopLaws.{in-counted, open-part, body-part, part-low, named-below}
+use Rattle.rules.proofs.AnywhereLaws.{either-right}
 use Rattle.rules.proofs.VisibleLaws.{contrary}
 use Rattle.table.specs.Marks.{bitAt, withBits}
 use Rattle.table.proofs.BitLaws.{bit-zero}
@@ -29,10 +30,10 @@ use Rattle.table.proofs.UseLaws.{length-withBits, bits-at}
 use Rattle.visit.specs.Fields.{planeWords}
 use Rattle.switches.specs.Aside.{innerParts, neverOf, neverParts, asideMarks, Aside}
 
-pub each-counted : (table : List ℕ) (k : ℕ) → (counted table k ≡ statementAt table k) ⊎ (counted table k ≡ nothing)
-each-counted table k =
-    ⊎-elim (λ (e : live table k ≡ true). inl (counted-live table k e)) (λ (e : live table k ≡ false). inr (counted-dead table k e))
-    (bool-cases (live table k))
+pub each-counted : (program : Program) (k : ℕ) → (counted program k ≡ statementAt program k) ⊎ (counted program k ≡ nothing)
+each-counted program k =
+    ⊎-elim (λ (e : live program k ≡ true). inl (counted-live program k e)) (λ (e : live program k ≡ false). inr (counted-dead program k e))
+    (bool-cases (live program k))
 
 -- marks of a list
 module _ (marks list : List ℕ) (size : length marks ≡ planeWords) (k : ℕ) (low : k < 256) where
@@ -77,25 +78,25 @@ open-inner (latch b c) a i = absurd i
 open-inner (collective k) a i = absurd i
 open-inner leave a i = absurd i
 
-module _ (table : List ℕ) (formed : Formed table) where
-  inner-part : (n a : ℕ) → In a (innerParts (statementAt table n)) → In a (partsAt table n)
+module _ (program : Program) (formed : Formed program) where
+  inner-part : (n a : ℕ) → In a (innerParts (statementAt program n)) → In a (partsAt program n)
   inner-part n a i =
       ⊎-elim
-      (λ (h : In a (openParts (statementAt table n))). open-part table formed n a h)
-      (λ (h : (c : ℕ) × (statementAt table n ≡ loop c a)). body-part table formed n (h .0) a (h .1))
-      (inner-cases (statementAt table n) a i)
+      (λ (h : In a (openParts (statementAt program n))). open-part program formed n a h)
+      (λ (h : (c : ℕ) × (statementAt program n ≡ loop c a)). body-part program formed n (h .0) a (h .1))
+      (inner-cases (statementAt program n) a i)
 
-  inner-statement : (n a : ℕ) (s : Statement) → statementAt table n ≡ s → In a (innerParts s) → isStatement table a ≡ true
+  inner-statement : (n a : ℕ) (s : Statement) → statementAt program n ≡ s → In a (innerParts s) → isStatement program a ≡ true
   unfolding innerParts
   inner-statement n a nothing s i = absurd i
   inner-statement n a (assign b c) s i = absurd i
-  inner-statement n a (sequence b c) s (inl e) = rw e (sequence-statements table formed n b c s .0)
-  inner-statement n a (sequence b c) s (inr (inl e)) = rw e (sequence-statements table formed n b c s .1)
+  inner-statement n a (sequence b c) s (inl e) = rw e (sequence-statements program formed n b c s .0)
+  inner-statement n a (sequence b c) s (inr (inl e)) = rw e (sequence-statements program formed n b c s .1)
   inner-statement n a (sequence b c) s (inr (inr i)) = absurd i
-  inner-statement n a (branch b c d) s (inl e) = rw e (branch-statements table formed n b c d s .0)
-  inner-statement n a (branch b c d) s (inr (inl e)) = rw e (branch-statements table formed n b c d s .1)
+  inner-statement n a (branch b c d) s (inl e) = rw e (branch-statements program formed n b c d s .0)
+  inner-statement n a (branch b c d) s (inr (inl e)) = rw e (branch-statements program formed n b c d s .1)
   inner-statement n a (branch b c d) s (inr (inr i)) = absurd i
-  inner-statement n a (loop b c) s (inl e) = rw e (loop-statement table formed n b c s)
+  inner-statement n a (loop b c) s (inl e) = rw e (loop-statement program formed n b c s)
   inner-statement n a (loop b c) s (inr i) = absurd i
   inner-statement n a (call p) s i = absurd i
   inner-statement n a (latch b c) s i = absurd i
@@ -103,86 +104,86 @@ module _ (table : List ℕ) (formed : Formed table) where
   inner-statement n a leave s i = absurd i
 
   -- a statement with such a part is not nothing
-  inner-some : (n a : ℕ) → In a (innerParts (statementAt table n)) → statementAt table n ≡ nothing → ⊥
+  inner-some : (n a : ℕ) → In a (innerParts (statementAt program n)) → statementAt program n ≡ nothing → ⊥
   unfolding innerParts
   inner-some n a i e = subst (λ s. In a (innerParts s)) e i
 
   -- a statement that is named is such a part
-  named-inner : (m a : ℕ) → In a (partsAt table m) → (isExpression table a ≡ true) ⊎ In a (innerParts (statementAt table m))
+  named-inner : (m a : ℕ) → In a (partsAt program m) → (isExpression program a ≡ true) ⊎ In a (innerParts (statementAt program m))
   unfolding innerParts
   named-inner m a i =
       ⊎-elim
-      (λ (e : isExpression table a ≡ true). inl e)
-      (λ (h : In a (openParts (statementAt table m)) ⊎ ((c : ℕ) × (statementAt table m ≡ loop c a))).
+      (λ (e : isExpression program a ≡ true). inl e)
+      (λ (h : In a (openParts (statementAt program m)) ⊎ ((c : ℕ) × (statementAt program m ≡ loop c a))).
       inr
       (⊎-elim
-      (λ (o : In a (openParts (statementAt table m))). open-inner (statementAt table m) a o)
-      (λ (l : (c : ℕ) × (statementAt table m ≡ loop c a)). rw (l .1) (inl refl))
+      (λ (o : In a (openParts (statementAt program m))). open-inner (statementAt program m) a o)
+      (λ (l : (c : ℕ) × (statementAt program m ≡ loop c a)). rw (l .1) (inl refl))
       h))
-      (part-sorted table formed m a i)
+      (part-sorted program formed m a i)
 
-  dead-up : (n a : ℕ) → In a (partsAt table n) → live table n ≡ false → live table a ≡ false
+  dead-up : (n a : ℕ) → In a (partsAt program n) → live program n ≡ false → live program a ≡ false
   dead-up n a i h =
       ⊎-elim
-      (λ (e : live table a ≡ true). absurd (contrary (live table n) (live-up table formed n a i e) h))
-      (λ (e : live table a ≡ false). e)
-      (bool-cases (live table a))
+      (λ (e : live program a ≡ true). absurd (contrary (live program n) (live-up program formed n a i e) h))
+      (λ (e : live program a ≡ false). e)
+      (bool-cases (live program a))
 
   -- the branch that will never be taken is dead
-  module _ (n a b c : ℕ) (s : statementAt table n ≡ branch a b c) where
-    never-at : (v d : ℕ) → fixing table a ≡ fixed v → d ≡ cond (eqb v 0) b c → Never table formed n d
+  module _ (n a b c : ℕ) (s : statementAt program n ≡ branch a b c) where
+    never-at : (v d : ℕ) → fixing program a ≡ fixed v → d ≡ cond (eqb v 0) b c → Never program formed n d
     never-at v d f e = record { condition = a; first = b; second = c; held = v; is = s; decided = f; never = e }
 
     pick-inner : (v : ℕ) (test : Bool) → In (cond test b c) (b ∷ c ∷ [])
     pick-inner v true = inl refl
     pick-inner v false = inr (inl refl)
 
-    never-dead : (f : Fixing) → fixing table a ≡ f → (k : ℕ) → In k (neverOf f b c)
-        → In k (b ∷ c ∷ []) × (live table k ≡ false)
+    never-dead : (f : Fixing) → fixing program a ≡ f → (k : ℕ) → In k (neverOf f b c)
+        → In k (b ∷ c ∷ []) × (live program k ≡ false)
     never-dead (fixed v) f k (inl e) = (
       rw e (pick-inner v (eqb v 0)),
       ⊎-elim
-          (λ (h : live table k ≡ true). absurd (never-live table formed n k (never-at v k f e) h))
-          (λ (h : live table k ≡ false). h)
-          (bool-cases (live table k)),
+          (λ (h : live program k ≡ true). absurd (never-live program formed n k (never-at v k f e) h))
+          (λ (h : live program k ≡ false). h)
+          (bool-cases (live program k)),
     )
     never-dead (fixed v) f k (inr i) = absurd i
     never-dead unfixed f k i = absurd i
 
     -- and of a live if no other
-    same-if : (k : ℕ) (never : Never table formed n k) → (fixing table a ≡ fixed (never .held)) × (k ≡ cond (eqb (never .held) 0) b c)
+    same-if : (k : ℕ) (never : Never program formed n k) → (fixing program a ≡ fixed (never .held)) × (k ≡ cond (eqb (never .held) 0) b c)
     same-if k never =
         let same : branch a b c ≡ branch (never .condition) (never .first) (never .second) = sym s ∙ never .is in
         let condition : a ≡ never .condition = cc in
         let first : b ≡ never .first = cc in
         let second : c ≡ never .second = cc in
-        (ap (fixing table) condition ∙ never .decided, rw (first, second) (never .never))
+        (ap (fixing program) condition ∙ never .decided, rw (first, second) (never .never))
 
-    alive-by : (k : ℕ) → In k (partsAt table n) → live table n ≡ true → live table k ≡ false → (Never table formed n k → ⊥) → ⊥
-    alive-by k i alive dead other = contrary (live table k) (live-part table formed n k i other alive) dead
+    alive-by : (k : ℕ) → In k (partsAt program n) → live program n ≡ true → live program k ≡ false → (Never program formed n k → ⊥) → ⊥
+    alive-by k i alive dead other = contrary (live program k) (live-part program formed n k i other alive) dead
 
-    other-taken : (v : ℕ) (test : Bool) → eqb v 0 ≡ test → fixing table a ≡ fixed v → (k : ℕ) → In k (b ∷ c ∷ []) → live table n ≡ true
-        → live table k ≡ false → k ≡ cond test b c
+    other-taken : (v : ℕ) (test : Bool) → eqb v 0 ≡ test → fixing program a ≡ fixed v → (k : ℕ) → In k (b ∷ c ∷ []) → live program n ≡ true
+        → live program k ≡ false → k ≡ cond test b c
     other-taken v true t f k (inl e) alive dead = e
     other-taken v true t f k (inr (inl e)) alive dead =
         absurd
-        (alive-by k (rw e (branch-parts table formed n a b c false s)) alive dead
-        (λ never. branches-differ table formed n a b c s (sym (sym e ∙ (same-if k never .1 ∙ chosen never)))))
+        (alive-by k (rw e (branch-parts program formed n a b c false s)) alive dead
+        (λ never. branches-differ program formed n a b c s (sym (sym e ∙ (same-if k never .1 ∙ chosen never)))))
       where
-        chosen : (never : Never table formed n k) → cond (eqb (never .held) 0) b c ≡ b
+        chosen : (never : Never program formed n k) → cond (eqb (never .held) 0) b c ≡ b
         chosen never = let w : v ≡ never .held = cc (same-if k never .0) in rw (← w, t) refl
     other-taken v true t f k (inr (inr i)) alive dead = absurd i
     other-taken v false t f k (inl e) alive dead =
         absurd
-        (alive-by k (rw e (branch-parts table formed n a b c true s)) alive dead
-        (λ never. branches-differ table formed n a b c s (sym e ∙ (same-if k never .1 ∙ chosen never))))
+        (alive-by k (rw e (branch-parts program formed n a b c true s)) alive dead
+        (λ never. branches-differ program formed n a b c s (sym e ∙ (same-if k never .1 ∙ chosen never))))
       where
-        chosen : (never : Never table formed n k) → cond (eqb (never .held) 0) b c ≡ c
+        chosen : (never : Never program formed n k) → cond (eqb (never .held) 0) b c ≡ c
         chosen never = let w : v ≡ never .held = cc (same-if k never .0) in rw (← w, t) refl
     other-taken v false t f k (inr (inl e)) alive dead = e
     other-taken v false t f k (inr (inr i)) alive dead = absurd i
 
-    dead-branch : (f : Fixing) → fixing table a ≡ f → (k : ℕ) → In k (b ∷ c ∷ []) → live table n ≡ true → live table k ≡ false
+    dead-branch : (f : Fixing) → fixing program a ≡ f → (k : ℕ) → In k (b ∷ c ∷ []) → live program n ≡ true → live program k ≡ false
         → In k (neverOf f b c)
     dead-branch (fixed v) f k i alive dead = inl (other-taken v (eqb v 0) refl f k i alive dead)
     dead-branch unfixed f k i alive dead =
@@ -193,63 +194,63 @@ module _ (table : List ℕ) (formed : Formed table) where
         let z : _≡_ {A = ℕ} 0 1 = cc in
         omega arith))
       where
-        part : In k (b ∷ c ∷ []) → In k (partsAt table n)
-        part (inl e) = rw e (branch-parts table formed n a b c true s)
-        part (inr (inl e)) = rw e (branch-parts table formed n a b c false s)
+        part : In k (b ∷ c ∷ []) → In k (partsAt program n)
+        part (inl e) = rw e (branch-parts program formed n a b c true s)
+        part (inr (inl e)) = rw e (branch-parts program formed n a b c false s)
         part (inr (inr j)) = absurd j
 
 -- the marks once the nodes from n on are passed: statements of dead branches, and of the parts of these nodes all such
-pub record AsideTo (table : List ℕ) (n : ℕ) (marks : List ℕ) : Type 0 where
+pub record AsideTo (program : Program) (n : ℕ) (marks : List ℕ) : Type 0 where
   pub size : length marks ≡ planeWords
-  pub dead : (k : ℕ) → k < 256 → bitAt marks k ≡ true → (isStatement table k ≡ true) × (live table k ≡ false)
-  pub done : (m k : ℕ) → n ≤ m → In k (innerParts (statementAt table m)) → live table k ≡ false → bitAt marks k ≡ true
+  pub dead : (k : ℕ) → k < 256 → bitAt marks k ≡ true → (isStatement program k ≡ true) × (live program k ≡ false)
+  pub done : (m k : ℕ) → n ≤ m → In k (innerParts (statementAt program m)) → live program k ≡ false → bitAt marks k ≡ true
 
-module _ (table : List ℕ) (formed : Formed table) where
-  pub aside-none : AsideTo table (nodes table) (replicate planeWords 0)
+module _ (program : Program) (formed : Formed program) where
+  pub aside-none : AsideTo program (nodes program) (replicate planeWords 0)
   aside-none =
       record {
         size = length-replicate {A = ℕ} planeWords 0;
         dead = λ k l e. absurd (contrary (bitAt (replicate planeWords 0) k) e (bit-zero planeWords k));
-        done = λ m k l i dead. absurd (inner-some table formed m k i (statement-past table (formed .sized) m l));
+        done = λ m k l i dead. absurd (inner-some program formed m k i (statement-past program formed m l));
       }
 
   -- a dead statement whose user is passed is marked
-  module _ (n : ℕ) (marks : List ℕ) (so-far : AsideTo table (n + 1) marks) where
-    settled : (k : ℕ) → n ≤ k → k < nodes table → live table k ≡ false → bitAt marks k ≡ false → isExpression table k ≡ true
+  module _ (n : ℕ) (marks : List ℕ) (so-far : AsideTo program (n + 1) marks) where
+    settled : (k : ℕ) → n ≤ k → k < nodes program → live program k ≡ false → bitAt marks k ≡ false → isExpression program k ≡ true
     settled k from low dead free =
         ⊎-elim
-        (λ (found : (m : ℕ) × In k (partsAt table m)).
+        (λ (found : (m : ℕ) × In k (partsAt program m)).
         ⊎-elim
-        (λ (e : isExpression table k ≡ true). e)
-        (λ (i : In k (innerParts (statementAt table (found .0)))).
+        (λ (e : isExpression program k ≡ true). e)
+        (λ (i : In k (innerParts (statementAt program (found .0)))).
         absurd
         (contrary (bitAt marks k)
-        (so-far .done (found .0) k (omega (arith, part-low table formed (found .0) k (found .1))) i dead) free))
-        (named-inner table formed (found .0) k (found .1)))
-        (λ (found : (p : ℕ) × (p < procedures table) × (k ≡ body table p)).
-        absurd (contrary (live table k) (rw (found .2) (live-body table formed (found .0) (found .1))) dead))
-        (user table formed k low)
+        (so-far .done (found .0) k (omega (arith, part-low program formed (found .0) k (found .1))) i dead) free))
+        (named-inner program formed (found .0) k (found .1)))
+        (λ (found : (p : ℕ) × (p < procedures program) × (k ≡ body program p)).
+        absurd (contrary (live program k) (rw (found .2) (live-body program formed (found .0) (found .1))) dead))
+        (user program formed k low)
 
     -- so one that is not marked and has statements as parts is live
-    live-here : n < nodes table → (k : ℕ) → In k (innerParts (statementAt table n)) → bitAt marks n ≡ false → live table n ≡ true
+    live-here : n < nodes program → (k : ℕ) → In k (innerParts (statementAt program n)) → bitAt marks n ≡ false → live program n ≡ true
     live-here low k i free =
         ⊎-elim
-        (λ (e : live table n ≡ true). e)
-        (λ (e : live table n ≡ false).
-        absurd (inner-some table formed n k i (expression-nothing table n (settled n (omega arith) low e free))))
-        (bool-cases (live table n))
+        (λ (e : live program n ≡ true). e)
+        (λ (e : live program n ≡ false).
+        absurd (inner-some program formed n k i (expression-nothing program n (settled n (omega arith) low e free))))
+        (bool-cases (live program n))
 
   -- what is marked at a node
   abbrev list : ℕ → Bool → List ℕ
-  list n dead = cond dead (innerParts (statementAt table n)) (neverParts table (statementAt table n))
+  list n dead = cond dead (innerParts (statementAt program n)) (neverParts program (statementAt program n))
 
-  never-list : (n k : ℕ) (s : Statement) → statementAt table n ≡ s → In k (neverParts table s)
-      → In k (innerParts s) × (live table k ≡ false)
+  never-list : (n k : ℕ) (s : Statement) → statementAt program n ≡ s → In k (neverParts program s)
+      → In k (innerParts s) × (live program k ≡ false)
   unfolding neverParts innerParts
   never-list n k nothing s i = absurd i
   never-list n k (assign a b) s i = absurd i
   never-list n k (sequence a b) s i = absurd i
-  never-list n k (branch a b c) s i = never-dead table formed n a b c s (fixing table a) refl k i
+  never-list n k (branch a b c) s i = never-dead program formed n a b c s (fixing program a) refl k i
   never-list n k (loop a b) s i = absurd i
   never-list n k (call p) s i = absurd i
   never-list n k (latch a b) s i = absurd i
@@ -257,48 +258,48 @@ module _ (table : List ℕ) (formed : Formed table) where
   never-list n k leave s i = absurd i
 
   -- of a live node nothing else is dead
-  dead-list : (n k : ℕ) (s : Statement) → statementAt table n ≡ s → live table n ≡ true → live table k ≡ false → In k (innerParts s)
-      → In k (neverParts table s)
+  dead-list : (n k : ℕ) (s : Statement) → statementAt program n ≡ s → live program n ≡ true → live program k ≡ false → In k (innerParts s)
+      → In k (neverParts program s)
   unfolding neverParts innerParts
   dead-list n k nothing s alive dead i = absurd i
   dead-list n k (assign a b) s alive dead i = absurd i
   dead-list n k (sequence a b) s alive dead i =
-      let (first, second) = live-sequence table formed n a b s alive in
+      let (first, second) = live-sequence program formed n a b s alive in
       absurd
       (⊎-elim
-      (λ (e : k ≡ a). contrary (live table k) (rw e first) dead)
+      (λ (e : k ≡ a). contrary (live program k) (rw e first) dead)
       (λ (h : (k ≡ b) ⊎ ⊥).
-      ⊎-elim (λ (e : k ≡ b). contrary (live table k) (rw e second) dead) (λ (z : ⊥). z) h)
+      ⊎-elim (λ (e : k ≡ b). contrary (live program k) (rw e second) dead) (λ (z : ⊥). z) h)
       i)
-  dead-list n k (branch a b c) s alive dead i = dead-branch table formed n a b c s (fixing table a) refl k i alive dead
+  dead-list n k (branch a b c) s alive dead i = dead-branch program formed n a b c s (fixing program a) refl k i alive dead
   dead-list n k (loop a b) s alive dead i =
       absurd
       (⊎-elim
-      (λ (e : k ≡ b). contrary (live table k) (rw e (live-repeated table formed n a b s alive)) dead) (λ (z : ⊥). z) i)
+      (λ (e : k ≡ b). contrary (live program k) (rw e (live-repeated program formed n a b s alive)) dead) (λ (z : ⊥). z) i)
   dead-list n k (call p) s alive dead i = absurd i
   dead-list n k (latch a b) s alive dead i = absurd i
   dead-list n k (collective c) s alive dead i = absurd i
   dead-list n k leave s alive dead i = absurd i
 
-  pub aside-more : (n : ℕ) (marks : List ℕ) → n < nodes table → AsideTo table (n + 1) marks → AsideTo table n (asideMarks table n marks)
+  pub aside-more : (n : ℕ) (marks : List ℕ) → n < nodes program → AsideTo program (n + 1) marks → AsideTo program n (asideMarks program n marks)
   unfolding asideMarks
   aside-more n marks low so-far =
       ⊎-elim
       (λ (e : bitAt marks n ≡ true).
       let dead = so-far .dead n (omega (arith, formed .nodes-high)) e .1 in
       simp e
-      (with-list (innerParts (statementAt table n))
-      (λ k i. (i, dead-up table formed n k (inner-part table formed n k i) dead)) (λ k i h. i)))
+      (with-list (innerParts (statementAt program n))
+      (λ k i. (i, dead-up program formed n k (inner-part program formed n k i) dead)) (λ k i h. i)))
       (λ (e : bitAt marks n ≡ false).
       simp e
-      (with-list (neverParts table (statementAt table n)) (λ k i. never-list n k (statementAt table n) refl i)
-      (λ k i h. dead-list n k (statementAt table n) refl (live-here n marks so-far low k i e) h i)))
+      (with-list (neverParts program (statementAt program n)) (λ k i. never-list n k (statementAt program n) refl i)
+      (λ k i h. dead-list n k (statementAt program n) refl (live-here n marks so-far low k i e) h i)))
       (bool-cases (bitAt marks n))
     where
       with-list : (marked : List ℕ)
-          → ((k : ℕ) → In k marked → In k (innerParts (statementAt table n)) × (live table k ≡ false))
-          → ((k : ℕ) → In k (innerParts (statementAt table n)) → live table k ≡ false → In k marked)
-          → AsideTo table n (withBits marks marked)
+          → ((k : ℕ) → In k marked → In k (innerParts (statementAt program n)) × (live program k ≡ false))
+          → ((k : ℕ) → In k (innerParts (statementAt program n)) → live program k ≡ false → In k marked)
+          → AsideTo program n (withBits marks marked)
       with-list marked sound whole =
           record {
             size = length-withBits marks marked ∙ so-far .size;
@@ -306,14 +307,14 @@ module _ (table : List ℕ) (formed : Formed table) where
                 ⊎-elim
                 (λ (h : bitAt marks k ≡ true). so-far .dead k l h)
                 (λ (i : In k marked).
-                (inner-statement table formed n k (statementAt table n) refl (sound k i .0), sound k i .1))
+                (inner-statement program formed n k (statementAt program n) refl (sound k i .0), sound k i .1))
                 (marked-cases marks marked (so-far .size) k l e);
             done = λ m k l i dead.
                 let few : k < 256 =
                 omega (
                   arith,
-                  part-low table formed m k (inner-part table formed m k i),
-                  named-below table formed m k (inner-part table formed m k i),
+                  part-low program formed m k (inner-part program formed m k i),
+                  named-below program formed m k (inner-part program formed m k i),
                   formed .nodes-high,
                 ) in
                 elim (decLt n m) [
@@ -324,34 +325,34 @@ module _ (table : List ℕ) (formed : Formed table) where
                 ];
           }
 
-  pub aside-all : (marks : List ℕ) → AsideTo table 0 marks → Aside table marks
+  pub aside-all : (marks : List ℕ) → AsideTo program 0 marks → Aside program marks
   aside-all marks all =
       record {
         size = all .size;
         dead = all .dead;
         counts = λ k low free.
             ⊎-elim
-            (λ (e : live table k ≡ true). counted-live table k e)
-            (λ (e : live table k ≡ false).
-            counted-dead table k e
-            ∙ sym (expression-nothing table k (settled-all k low e free)))
-            (bool-cases (live table k));
+            (λ (e : live program k ≡ true). counted-live program k e)
+            (λ (e : live program k ≡ false).
+            counted-dead program k e
+            ∙ sym (expression-nothing program k (settled-all k low e free)))
+            (bool-cases (live program k));
       }
     where
-      settled-all : (k : ℕ) → k < nodes table → live table k ≡ false → bitAt marks k ≡ false → isExpression table k ≡ true
+      settled-all : (k : ℕ) → k < nodes program → live program k ≡ false → bitAt marks k ≡ false → isExpression program k ≡ true
       settled-all k low dead free =
           settled 0 marks (record { size = all .size; dead = all .dead; done = λ m j l i d. all .done m j (omega arith) i d }) k (omega arith) low
           dead free
 
 -- where nothing is marked every node counts as what it is
-pub none-aside : (table : List ℕ) → Formed table → (marks : List ℕ) → Aside table marks → ((k : ℕ) → k < 256 → bitAt marks k ≡ false)
-    → counted table ≡ statementAt table
-none-aside table formed marks aside clear =
+pub none-aside : (program : Program) → Formed program → (marks : List ℕ) → Aside program marks → ((k : ℕ) → k < 256 → bitAt marks k ≡ false)
+    → counted program ≡ statementAt program
+none-aside program formed marks aside clear =
     fun-ext
     (λ k.
-    elim (decLt k (nodes table)) [
+    elim (decLt k (nodes program)) [
       | yes l ↦ aside .counts k l (clear k (omega (arith, formed .nodes-high)))
       | no h ↦
-          let past = statement-past table (formed .sized) k (omega arith) in
-          ⊎-elim (λ (e : counted table k ≡ statementAt table k). e) (λ (e : counted table k ≡ nothing). e ∙ sym past) (each-counted table k)
+          let past = statement-past program formed k (omega arith) in
+          ⊎-elim (λ (e : counted program k ≡ statementAt program k). e) (λ (e : counted program k ≡ nothing). e ∙ sym past) (each-counted program k)
     ])

@@ -9,6 +9,7 @@ use borrow.Rule.Slice.PartMut.{midOf, postOf, putMid, same-len-mid, take-put}
 use Rattle.visit.specs.Fields.{planeWords, allPlanes}
 use Rattle.switches.specs.Again.{Beside}
 use Rattle.switches.specs.Aside.{fourPlanes, workPlanes, asidePlane, Aside}
+use Rattle.rules.specs.Table.{Program}
 
 module _ (planes : List ℕ) (size : length planes ≡ fourPlanes) where
   pub work-length : length (workPlanes planes) ≡ allPlanes
@@ -35,7 +36,7 @@ module _ (planes : List ℕ) (size : length planes ≡ fourPlanes) where
     pub length-put-work : length (putMid 0 allPlanes planes words) ≡ fourPlanes
     length-put-work = same-len-mid 0 allPlanes planes words (many ∙ sym work-length) ∙ size
 
-    pub beside-work : {table : List ℕ} → Beside table planes → Beside table (putMid 0 allPlanes planes words)
+    pub beside-work : {program : Program} → Beside program planes → Beside program (putMid 0 allPlanes planes words)
     beside-work beside = record { size = length-put-work; aside = rw aside-put-work (beside .aside) }
 
   module _ (words : List ℕ) (many : length words ≡ planeWords) where
@@ -49,5 +50,5 @@ module _ (planes : List ℕ) (size : length planes ≡ fourPlanes) where
     length-put-aside =
         same-len-mid allPlanes planeWords planes words (many ∙ sym (ap length aside-lent ∙ aside-length)) ∙ size
 
-    pub beside-aside : {table : List ℕ} → Aside table words → Beside table (putMid allPlanes planeWords planes words)
+    pub beside-aside : {program : Program} → Aside program words → Beside program (putMid allPlanes planeWords planes words)
     beside-aside aside = record { size = length-put-aside; aside = rw aside-put-aside aside }

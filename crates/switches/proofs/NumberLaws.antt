@@ -13,7 +13,7 @@ use Rattle.rules.specs.declared.Verdict.the-variants.{Accepted, Refused}
 use Rattle.rules.specs.Acceptance.{questionOf, question17, judgedBy, judged}
 use Rattle.rules.specs.Answers.{_then_, ask, askEach}
 use Rattle.rules.specs.Choice.{firstFailing}
-use Rattle.rules.specs.Table.{wordAt, variables, procedures, nodes, statementAt, Statement}
+use Rattle.rules.specs.Table.{Program, decode, wordAt, variables, procedures, nodes, statementAt, Statement}
 use Rattle.rules.specs.WellFormed.{mostTableBytes, headerFits, question2, question3, question4, question5, question6, question7, question8, question9}
 use Rattle.rules.specs.WellFormed.{question10, question11, question12, question26, wellBuilt, wellFormed}
 use borrow.Author.Tests.{not-true}
@@ -55,16 +55,16 @@ unfolding wellFormed wellBuilt
 well-numbers table =
     let q2 : By others (question2 table) = by-ask 2 (eqb (length table % 4) 0 && leb 16 (length table) && leb (length table) mostTableBytes) refl in
     let q3 : By others (question3 table) = by-ask 3 (headerFits table) refl in
-    let q4 : By others (question4 table) = by-ask 4 (eqb (length table) (4 * (2 + procedures table + nodes table))) refl in
-    let q5 : By others (question5 table) = by-ask 5 (eqb (wordAt table 1 % 2 ^ (32 - variables table)) 0) refl in
+    let q4 : By others (question4 table) = by-ask 4 (eqb (length table) (4 * (2 + procedures (decode table) + nodes (decode table)))) refl in
+    let q5 : By others (question5 table) = by-ask 5 (eqb (wordAt table 1 % 2 ^ (32 - variables (decode table))) 0) refl in
     let q6 : By others (question6 table) = by-each 6 _ _ refl in
-    let q7 : By others (question7 table) = by-each 7 _ _ refl in
-    let q8 : By others (question8 table) = by-each 8 _ _ refl in
-    let q9 : By others (question9 table) = by-each 9 _ _ refl in
-    let q10 : By others (question10 table) = by-each 10 _ _ refl in
-    let q11 : By others (question11 table) = by-each 11 _ _ refl in
-    let q12 : By others (question12 table) = by-each 12 _ _ refl in
-    let q26 : By others (question26 table) = by-each 26 _ _ refl in
+    let q7 : By others (question7 (decode table)) = by-each 7 _ _ refl in
+    let q8 : By others (question8 (decode table)) = by-each 8 _ _ refl in
+    let q9 : By others (question9 (decode table)) = by-each 9 _ _ refl in
+    let q10 : By others (question10 (decode table)) = by-each 10 _ _ refl in
+    let q11 : By others (question11 (decode table)) = by-each 11 _ _ refl in
+    let q12 : By others (question12 (decode table)) = by-each 12 _ _ refl in
+    let q26 : By others (question26 (decode table)) = by-each 26 _ _ refl in
     by-then
     (by-then q2
     (by-then q3
@@ -72,11 +72,11 @@ well-numbers table =
     (by-then q5 (by-then q6 (by-then q7 (by-then q8 (by-then q9 (by-then q10 (by-then q11 q12))))))))))
     q26
 
-rule-numbers : (table : List ℕ) (reading : ℕ → Statement) → By byRules (judgedBy table reading)
+rule-numbers : (program : Program) (reading : ℕ → Statement) → By byRules (judgedBy program reading)
 unfolding judgedBy
-rule-numbers table reading =
-    let question : (k : ℕ) → byRules k ≡ true → By byRules (questionOf table reading k) = λ k e. by-each k _ _ e in
-    let q17 : By byRules (question17 table reading) = by-each 17 _ _ refl in
+rule-numbers program reading =
+    let question : (k : ℕ) → byRules k ≡ true → By byRules (questionOf program reading k) = λ k e. by-each k _ _ e in
+    let q17 : By byRules (question17 program reading) = by-each 17 _ _ refl in
     by-then (question 13 refl) (by-then (question 14 refl) (by-then (question 15 refl) (by-then (question 16 refl) q17)))
 
 numbered : {r s : Refusal} → Refused r ≡ Refused s → r .number ≡ s .number
@@ -102,18 +102,18 @@ by-first Accepted w next r e by h = absurd (contrary (byRules (r .number)) (refu
     refuted (failed e) = e
 by-first (Refused s) w next r e by h = e
 
-module _ (table : List ℕ) (r : Refusal) (e : Refused r ≡ (wellFormed table then judgedBy table (statementAt table))) where
-  pub refused-judged : byRules (r .number) ≡ true → (wellFormed table ≡ Accepted) × (Refused r ≡ judgedBy table (statementAt table))
-  refused-judged h = by-second (wellFormed table) (judgedBy table (statementAt table)) r e (well-numbers table) h
+module _ (table : List ℕ) (r : Refusal) (e : Refused r ≡ (wellFormed table then judgedBy (decode table) (statementAt (decode table)))) where
+  pub refused-judged : byRules (r .number) ≡ true → (wellFormed table ≡ Accepted) × (Refused r ≡ judgedBy (decode table) (statementAt (decode table)))
+  refused-judged h = by-second (wellFormed table) (judgedBy (decode table) (statementAt (decode table))) r e (well-numbers table) h
 
-  pub refused-formed : byRules (r .number) ≡ false → Refused r ≡ (wellFormed table then judged table)
+  pub refused-formed : byRules (r .number) ≡ false → Refused r ≡ (wellFormed table then judged (decode table))
   refused-formed h =
-      by-first (wellFormed table) (judgedBy table (statementAt table)) (judged table) r e (rule-numbers table (statementAt table)) h
+      by-first (wellFormed table) (judgedBy (decode table) (statementAt (decode table))) (judged (decode table)) r e (rule-numbers (decode table) (statementAt (decode table))) h
 
 -- what is accepted where every node counts is accepted
-pub whole-accepted : (table : List ℕ) → (wellFormed table then judgedBy table (statementAt table)) ≡ Accepted
-    → (wellFormed table then judged table) ≡ Accepted
+pub whole-accepted : (table : List ℕ) → (wellFormed table then judgedBy (decode table) (statementAt (decode table))) ≡ Accepted
+    → (wellFormed table then judged (decode table)) ≡ Accepted
 whole-accepted table e =
-    let well = then-first (wellFormed table) (judgedBy table (statementAt table)) e in
-    then-accepted (wellFormed table) (judged table) well
-    (still-accepted table well (then-rest (wellFormed table) (judgedBy table (statementAt table)) e))
+    let well = then-first (wellFormed table) (judgedBy (decode table) (statementAt (decode table))) e in
+    then-accepted (wellFormed table) (judged (decode table)) well
+    (still-accepted table well (then-rest (wellFormed table) (judgedBy (decode table) (statementAt (decode table))) e))

@@ -6,7 +6,7 @@ use Prim.Native.Nat.{ℕ, _≤_, _<_}
 use lib.ListN.{length}
 use Rattle.leaves.specs.Leaves.{PassedTo}
 use Rattle.rules.specs.Judgement.{counted}
-use Rattle.rules.specs.Table.{nodes}
+use Rattle.rules.specs.Table.{Program, nodes}
 use Rattle.rules.specs.WellFormed.{partsAt, occurrences}
 use Rattle.sweep.specs.declared.Reached.{Reached}
 use Rattle.sweep.specs.Nodes.{RuledTo}
@@ -23,24 +23,24 @@ pub record Stretch (marks : List ℕ) (n count end : ℕ) : Type 0 where
   pub stop : end < count → bitAt marks end ≡ true
 
 -- the statements set aside, beside what is worked on
-pub record Beside (table planes : List ℕ) : Type 0 where
+pub record Beside (program : Program) (planes : List ℕ) : Type 0 where
   pub size : length planes ≡ fourPlanes
-  pub aside : Aside table (asidePlane planes)
+  pub aside : Aside program (asidePlane planes)
 
 -- the nodes below n that count are visited: their facts, the least refusal by their rules, and as used nothing but their parts
-pub record VisitedTo (table : List ℕ) (n : ℕ) (planes : List ℕ) (rule : ℕ) : Type 0 where
+pub record VisitedTo (program : Program) (n : ℕ) (planes : List ℕ) (rule : ℕ) : Type 0 where
   pub size : length planes ≡ allPlanes
-  pub ruled : RuledTo table (counted table) n rule planes
-  pub used : (k : ℕ) → k < 256 → bitAt (usedPlane planes) k ≡ true → (m : ℕ) × (m < n) × (1 ≤ occurrences k (partsAt table m))
+  pub ruled : RuledTo program (counted program) n rule planes
+  pub used : (k : ℕ) → k < 256 → bitAt (usedPlane planes) k ≡ true → (m : ℕ) × (m < n) × (1 ≤ occurrences k (partsAt program m))
 
 -- a node more at the least
-pub record Onward (table : List ℕ) (before after : Reached) : Type 0 where
+pub record Onward (program : Program) (before after : Reached) : Type 0 where
   pub more : before .node < after .node
-  pub within : after .node ≤ nodes table
+  pub within : after .node ≤ nodes program
   pub low : after .rule ≤ none
 
 -- from one node to another, if the nodes below the first that count are passed over for their leaves
-abbrev pub PassesOn : List ℕ → List ℕ → List ℕ → Reached → Reached → Type 0
-PassesOn table before after from reached =
-    (rule : ℕ) (begun : List ℕ) → PassedTo table (counted table) rule begun (from .node) before (from .rule)
-    → PassedTo table (counted table) rule begun (reached .node) after (reached .rule)
+abbrev pub PassesOn : Program → List ℕ → List ℕ → Reached → Reached → Type 0
+PassesOn program before after from reached =
+    (rule : ℕ) (begun : List ℕ) → PassedTo program (counted program) rule begun (from .node) before (from .rule)
+    → PassedTo program (counted program) rule begun (reached .node) after (reached .rule)

@@ -6,7 +6,7 @@ use Prim.Native.Nat.{ℕ, _+_, _≤_, _<_}
 use lib.Dec.{eqb}
 use lib.ListN.{length, take, drop}
 use Rattle.rules.specs.Judgement.{Fixing, fixed, unfixed, fixing, live, counted}
-use Rattle.rules.specs.Table.{nodes, statementAt}
+use Rattle.rules.specs.Table.{Program, nodes, statementAt}
 use Rattle.rules.specs.Table.{Statement, nothing, assign, sequence, branch, loop, call, latch, collective, leave}
 use Rattle.rules.specs.WellFormed.{isStatement}
 use Rattle.table.specs.Marks.{bitAt, withBits}
@@ -39,24 +39,24 @@ abbrev pub neverOf : Fixing → ℕ → ℕ → List ℕ
 neverOf (fixed v) first second = cond (eqb v 0) first second ∷ []
 neverOf unfixed first second = []
 
-unfoldable pub neverParts : List ℕ → Statement → List ℕ
-neverParts table nothing = []
-neverParts table (assign a b) = []
-neverParts table (sequence a b) = []
-neverParts table (branch a b c) = neverOf (fixing table a) b c
-neverParts table (loop a b) = []
-neverParts table (call p) = []
-neverParts table (latch a b) = []
-neverParts table (collective k) = []
-neverParts table leave = []
+unfoldable pub neverParts : Program → Statement → List ℕ
+neverParts program nothing = []
+neverParts program (assign a b) = []
+neverParts program (sequence a b) = []
+neverParts program (branch a b c) = neverOf (fixing program a) b c
+neverParts program (loop a b) = []
+neverParts program (call p) = []
+neverParts program (latch a b) = []
+neverParts program (collective k) = []
+neverParts program leave = []
 
 -- the marks once node n is passed on the way down
-unfoldable pub asideMarks : List ℕ → ℕ → List ℕ → List ℕ
-asideMarks table n marks =
-    cond (bitAt marks n) (withBits marks (innerParts (statementAt table n))) (withBits marks (neverParts table (statementAt table n)))
+unfoldable pub asideMarks : Program → ℕ → List ℕ → List ℕ
+asideMarks program n marks =
+    cond (bitAt marks n) (withBits marks (innerParts (statementAt program n))) (withBits marks (neverParts program (statementAt program n)))
 
 -- what is marked is a statement of a dead branch; what is not counts as what it is
-pub record Aside (table marks : List ℕ) : Type 0 where
+pub record Aside (program : Program) (marks : List ℕ) : Type 0 where
   pub size : length marks ≡ planeWords
-  pub dead : (k : ℕ) → k < 256 → bitAt marks k ≡ true → (isStatement table k ≡ true) × (live table k ≡ false)
-  pub counts : (k : ℕ) → k < nodes table → bitAt marks k ≡ false → counted table k ≡ statementAt table k
+  pub dead : (k : ℕ) → k < 256 → bitAt marks k ≡ true → (isStatement program k ≡ true) × (live program k ≡ false)
+  pub counts : (k : ℕ) → k < nodes program → bitAt marks k ≡ false → counted program k ≡ statementAt program k

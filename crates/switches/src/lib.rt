@@ -8,7 +8,7 @@ ghost use lib.ListN.{length, replicate};
 ghost use Rattle.process.specs.Given.{Read};
 ghost use Rattle.rules.specs.Acceptance.{judgedBy, judged};
 ghost use Rattle.rules.specs.Answers.{_then_};
-ghost use Rattle.rules.specs.Table.{statementAt};
+ghost use Rattle.rules.specs.Table.{decode, statementAt};
 ghost use Rattle.rules.specs.WellFormed.{wellFormed};
 ghost use Rattle.switches.specs.Again.{Beside};
 ghost use Rattle.switches.specs.Aside.{asidePlane, fourPlanes};
@@ -45,8 +45,8 @@ fn by_rules(number: u32) -> bool
 
 // Questions 13 to 17 of a table that passes 2 to 12 and 26, where the statements of dead branches are set aside.
 fn judge_counted(table: &[u8], header: Header, planes: &mut [u32]) -> Verdict
-    requires { ⌜ Read (now table) header × Beside (now table) (now planes) ⌝ }
-    ensures { λ r. ⌜ r ≡ judged (now (table .entry)) ⌝ }
+    requires { ⌜ Read (now table) header × Beside (decode (now table)) (now planes) ⌝ }
+    ensures { λ r. ⌜ r ≡ judged (decode (now (table .entry))) ⌝ }
 {
     clear(&mut planes[0..ASIDE]);
     let guards = visit_again(table, header, planes);
@@ -58,8 +58,8 @@ fn judge_counted(table: &[u8], header: Header, planes: &mut [u32]) -> Verdict
 // The same of one that gets the answer `whole` if every node counts, which stands where nothing is to be set aside.
 fn judge_again(table: &[u8], header: Header, planes: &mut [u32], whole: Verdict) -> Verdict
     requires { ⌜ Read (now table) header × (length (now planes) ≡ fourPlanes) × (asidePlane (now planes) ≡ replicate planeWords 0)
-        × (whole ≡ judgedBy (now table) (statementAt (now table))) ⌝ }
-    ensures { λ r. ⌜ r ≡ judged (now (table .entry)) ⌝ }
+        × (whole ≡ judgedBy (decode (now table)) (statementAt (decode (now table)))) ⌝ }
+    ensures { λ r. ⌜ r ≡ judged (decode (now (table .entry))) ⌝ }
 {
     set_aside(table, header, &mut planes[ASIDE..FOUR_PLANES]);
     if none_marked(&planes[ASIDE..FOUR_PLANES]) {
@@ -71,7 +71,7 @@ fn judge_again(table: &[u8], header: Header, planes: &mut [u32], whole: Verdict)
 // Questions 2 to 12, 26 and 13 to 17, over planes that are zero.
 pub fn answer(table: &[u8], planes: &mut [u32]) -> Verdict
     requires { ⌜ now planes ≡ replicate fourPlanes 0 ⌝ }
-    ensures { λ r. ⌜ r ≡ (wellFormed (now (table .entry)) then judged (now (table .entry))) ⌝ }
+    ensures { λ r. ⌜ r ≡ (wellFormed (now (table .entry)) then judged (decode (now (table .entry)))) ⌝ }
 {
     let whole = accepted(table, &mut planes[0..ASIDE]);
     match whole {

@@ -8,7 +8,7 @@ use lib.Dec.{ltb, eqb}
 use borrow.Author.Tests.{eqb-true, ltb-true}
 use Rattle.rules.specs.declared.Node.{Node}
 use Rattle.rules.specs.declared.Verdict.the-variants.{Accepted}
-use Rattle.rules.specs.Table.{procedures, nodes, body, nodeAt, procedureWord}
+use Rattle.rules.specs.Table.{Program, decode, procedures, nodes, body, nodeAt, procedureWord}
 use Rattle.rules.specs.WellFormed.{nodeFits, isExpression, isStatement, expressionPart, statementPart, procedureFits}
 use Rattle.rules.specs.WellFormed.{question6, question9}
 use Rattle.rules.proofs.AnswerLaws.{both-left, both-right, each-passed}
@@ -20,45 +20,45 @@ use Rattle.table.specs.Uses.{Fitting}
 use Rattle.table.proofs.RoleLaws.{fits-law}
 use Rattle.table.proofs.TestLaws.{all-three}
 
-pub body-low : (table : List ℕ) (p : ℕ) → procedureFits table p ≡ true → body table p < nodes table
+pub body-low : (table : List ℕ) (p : ℕ) → procedureFits table p ≡ true → body (decode table) p < nodes (decode table)
 unfolding procedureFits
 body-low table p fits =
-    ltb-true (body table p) (nodes table) (both-right (eqb (procedureWord table p % 2 ^ 23) 0) _ fits)
+    ltb-true (body (decode table) p) (nodes (decode table)) (both-right (eqb (procedureWord table p % 2 ^ 23) 0) _ fits)
 
 pub fitting : (table : List ℕ) (header : Header) → Sized table header → question6 table ≡ Accepted
-    → question9 table ≡ Accepted
+    → question9 (decode table) ≡ Accepted
     → Fitting table header
 fitting table header s passed6 passed9 =
     record {
       sized = s;
-      bodies = λ p l. body-low table p (each-passed 6 (procedures table) (procedureFits table) passed6 p l);
-      fits = each-passed 9 (nodes table) (nodeFits table) passed9;
+      bodies = λ p l. body-low table p (each-passed 6 (procedures (decode table)) (procedureFits table) passed6 p l);
+      fits = each-passed 9 (nodes (decode table)) (nodeFits (decode table)) passed9;
     }
 
 -- a part that fits lies below its node
-pub part-below : (table : List ℕ) (n role value : ℕ) → fieldFits table n role value ≡ true
+pub part-below : (program : Program) (n role value : ℕ) → fieldFits program n role value ≡ true
     → isPart role ≡ true
     → value < n
 unfolding fieldFits expressionPart statementPart
-part-below table n role value fits part =
+part-below program n role value fits part =
     ⊎-elim
     (λ (e : eqb role 2 ≡ true).
     let two : role ≡ 2 = eqb-true role 2 e in
-    let here : (ltb value n && isExpression table value) ≡ true = rw two at fits in
-    ltb-true value n (both-left (ltb value n) (isExpression table value) here))
+    let here : (ltb value n && isExpression program value) ≡ true = rw two at fits in
+    ltb-true value n (both-left (ltb value n) (isExpression program value) here))
     (λ (e : eqb role 2 ≡ false).
     let three : role ≡ 3 = eqb-true role 3 (simp e at part) in
-    let here : (ltb value n && isStatement table value) ≡ true = rw three at fits in
-    ltb-true value n (both-left (ltb value n) (isStatement table value) here))
+    let here : (ltb value n && isStatement program value) ≡ true = rw three at fits in
+    ltb-true value n (both-left (ltb value n) (isStatement program value) here))
     (bool-cases (eqb role 2))
 
 -- the fields of a node that fits
-module _ (table : List ℕ) (n : ℕ) (fits : nodeFits table n ≡ true) where
+module _ (program : Program) (n : ℕ) (fits : nodeFits program n ≡ true) where
   abbrev m : Node
-  m = nodeAt table n
+  m = nodeAt program n
 
   abbrev Fits : ℕ → ℕ → Type 0
-  Fits place value = fieldFits table n (roleOf (m .kind) place) value ≡ true
+  Fits place value = fieldFits program n (roleOf (m .kind) place) value ≡ true
 
   pub fields-fit : Fits 100 (m .a) × Fits 10 (m .b) × Fits 1 (m .c)
-  fields-fit = all-three _ _ _ (sym (fits-law table n) ∙ fits)
+  fields-fit = all-three _ _ _ (sym (fits-law program n) ∙ fits)

@@ -1,6 +1,6 @@
 -- The roles of a node's fields say the same as the definitions of questions 8, 9 and 11 by kind: one law each, at every kind.
 use mathlib.Core.Bool.{false, _&&_, and-true, and-assoc}
-use mathlib.Core.List.{List, _++_}
+use mathlib.Core.List.{_++_}
 use mathlib.Core.Path.{_≡_, refl}
 use Prim.Native.Nat.{ℕ, zero, suc, _-_, _≤_, _<_}
 use native.Mathlib.Decide.{decLt}
@@ -10,7 +10,7 @@ use lib.Dec.{eqb}
 use borrow.Author.Tests.{ne-eqb}
 use lib.ListN.{getD, List·getD-eq-default}
 use Rattle.rules.specs.declared.Node.{Node}
-use Rattle.rules.specs.Table.{constant, nothing, nodeAt, expressionOf, statementOf, expressionAt, statementAt}
+use Rattle.rules.specs.Table.{Program, constant, nothing, nodeAt, expressionOf, statementOf, expressionAt, statementAt}
 use Rattle.rules.specs.WellFormed.{namedFields, unnamedZero, expressionFits, collectiveFits, statementFits, nodeFits}
 use Rattle.rules.specs.WellFormed.{expressionParts, collectiveParts, statementParts, partsAt}
 use Rattle.table.specs.Roles.{roles, roleOf, fieldZero, fieldFits, fieldParts}
@@ -94,12 +94,12 @@ pub zero-law : (m : Node) → unnamedZero m
 zero-law m = each-kind ZeroAt zero-known zero-unknown (m .kind) (m .a) (m .b) (m .c)
 
 -- question 9
-module _ (table : List ℕ) (n : ℕ) where
+module _ (program : Program) (n : ℕ) where
   abbrev FitsAt : ℕ → Type 0
   FitsAt k =
       (a b c : ℕ)
-      → (expressionFits table n (expressionOf (node k a b c)) && statementFits table n (statementOf (node k a b c)))
-      ≡ (fieldFits table n (roleOf k 100) a && (fieldFits table n (roleOf k 10) b && fieldFits table n (roleOf k 1) c))
+      → (expressionFits program n (expressionOf (node k a b c)) && statementFits program n (statementOf (node k a b c)))
+      ≡ (fieldFits program n (roleOf k 100) a && (fieldFits program n (roleOf k 10) b && fieldFits program n (roleOf k 1) c))
 
   fits-known : Each FitsAt listed
   unfolding expressionOf statementOf expressionFits collectiveFits statementFits roleOf roles fieldFits
@@ -121,13 +121,13 @@ module _ (table : List ℕ) (n : ℕ) where
       simp
       (expression-unknown k a b c h, statement-unknown k a b c h, role-unknown k 100 h, role-unknown k 10 h, role-unknown k 1 h)
 
-  pub fits-law : nodeFits table n
-      ≡ (fieldFits table n (roleOf (nodeAt table n .kind) 100) (nodeAt table n .a)
-      && (fieldFits table n (roleOf (nodeAt table n .kind) 10) (nodeAt table n .b)
-      && fieldFits table n (roleOf (nodeAt table n .kind) 1) (nodeAt table n .c)))
+  pub fits-law : nodeFits program n
+      ≡ (fieldFits program n (roleOf (nodeAt program n .kind) 100) (nodeAt program n .a)
+      && (fieldFits program n (roleOf (nodeAt program n .kind) 10) (nodeAt program n .b)
+      && fieldFits program n (roleOf (nodeAt program n .kind) 1) (nodeAt program n .c)))
   unfolding nodeFits expressionAt statementAt
   fits-law =
-      let m = nodeAt table n in
+      let m = nodeAt program n in
       each-kind FitsAt fits-known fits-unknown (m .kind) (m .a) (m .b) (m .c)
 
 -- question 11: the parts that a node names
@@ -153,11 +153,11 @@ parts-unknown k h a b c =
     simp
     (expression-unknown k a b c h, statement-unknown k a b c h, role-unknown k 100 h, role-unknown k 10 h, role-unknown k 1 h)
 
-pub parts-law : (table : List ℕ) (n : ℕ) → partsAt table n
-    ≡ fieldParts (roleOf (nodeAt table n .kind) 100) (nodeAt table n .a)
-    ++ (fieldParts (roleOf (nodeAt table n .kind) 10) (nodeAt table n .b)
-    ++ fieldParts (roleOf (nodeAt table n .kind) 1) (nodeAt table n .c))
+pub parts-law : (program : Program) (n : ℕ) → partsAt program n
+    ≡ fieldParts (roleOf (nodeAt program n .kind) 100) (nodeAt program n .a)
+    ++ (fieldParts (roleOf (nodeAt program n .kind) 10) (nodeAt program n .b)
+    ++ fieldParts (roleOf (nodeAt program n .kind) 1) (nodeAt program n .c))
 unfolding partsAt expressionAt statementAt
-parts-law table n =
-    let m = nodeAt table n in
+parts-law program n =
+    let m = nodeAt program n in
     each-kind PartsAt parts-known parts-unknown (m .kind) (m .a) (m .b) (m .c)

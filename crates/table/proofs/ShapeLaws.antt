@@ -9,7 +9,7 @@ use lib.ListN.{length}
 use borrow.Author.Tests.{leb-true, eqb-true, eq-eqb, ne-eqb}
 use Rattle.rules.specs.declared.Verdict.the-variants.{Accepted}
 use Rattle.rules.specs.Answers.{refused, ask}
-use Rattle.rules.specs.Table.{wordAt, edition, variables, procedures, nodes, nodeAt, unpacked}
+use Rattle.rules.specs.Table.{decode, wordAt, edition, variables, procedures, nodes, nodeAt, unpacked}
 use Rattle.rules.specs.WellFormed.{headerFits, isStatement, question2, question3, question4}
 use Rattle.rules.proofs.Formed.{word-past}
 use Rattle.rules.proofs.AnswerLaws.{both-left, both-right, then-first, then-rest, ask-holds}
@@ -85,37 +85,37 @@ module _ (table : List ℕ) where
   refused3 e f = simp (e, f)
 
   pub refused4 : LengthTest ≡ true → headerFits table ≡ true
-      → (length table ≡ 4 * (2 + procedures table + nodes table) → ⊥)
+      → (length table ≡ 4 * (2 + procedures (decode table) + nodes (decode table)) → ⊥)
       → shapeVerdict table ≡ refused 4 0
   unfolding shapeVerdict
-  refused4 e f g = simp (e, f, ne-eqb (length table) (4 * (2 + procedures table + nodes table)) g)
+  refused4 e f g = simp (e, f, ne-eqb (length table) (4 * (2 + procedures (decode table) + nodes (decode table))) g)
 
   pub answered5 : (flags : Bool) → LengthTest ≡ true → headerFits table ≡ true
-      → length table ≡ 4 * (2 + procedures table + nodes table)
-      → flags ≡ eqb (wordAt table 1 % 2 ^ (32 - variables table)) 0
+      → length table ≡ 4 * (2 + procedures (decode table) + nodes (decode table))
+      → flags ≡ eqb (wordAt table 1 % 2 ^ (32 - variables (decode table))) 0
       → shapeVerdict table ≡ ask 5 flags
   unfolding shapeVerdict
-  answered5 flags e f g h = simp (e, f, h, eq-eqb (length table) (4 * (2 + procedures table + nodes table)) g)
+  answered5 flags e f g h = simp (e, f, h, eq-eqb (length table) (4 * (2 + procedures (decode table) + nodes (decode table))) g)
 
 -- the counts of a header that was read
 module _ (table : List ℕ) (h : Header) (e : h ≡ headerOf table) where
-  pub read-variables : h .variables ≡ variables table
+  pub read-variables : h .variables ≡ variables (decode table)
   unfolding headerOf
   read-variables = ap (λ (x : Header). x .variables) e
 
-  pub read-procedures : h .procedures ≡ procedures table
+  pub read-procedures : h .procedures ≡ procedures (decode table)
   unfolding headerOf
   read-procedures = ap (λ (x : Header). x .procedures) e
 
-  pub read-nodes : h .nodes ≡ nodes table
+  pub read-nodes : h .nodes ≡ nodes (decode table)
   unfolding headerOf
   read-nodes = ap (λ (x : Header). x .nodes) e
 
 -- a node past the last is no statement
-pub statement-past : (table : List ℕ) (h : Header) → Sized table h → (n : ℕ) → nodes table ≤ n
-    → isStatement table n ≡ false
-unfolding isStatement nodeAt unpacked
+pub statement-past : (table : List ℕ) (h : Header) → Sized table h → (n : ℕ) → nodes (decode table) ≤ n
+    → isStatement (decode table) n ≡ false
+unfolding isStatement decode procedures nodeAt unpacked
 statement-past table h s n l =
-    let past : wordAt table (2 + procedures table + n) ≡ 0 =
-    word-past table (2 + procedures table + n) (omega (arith, s .size)) in
+    let past : wordAt table (2 + procedures (decode table) + n) ≡ 0 =
+    word-past table (2 + procedures (decode table) + n) (omega (arith, s .size)) in
     simp past

@@ -4,7 +4,7 @@ use mathlib.Core.List.{List, [], _∷_}
 use Prim.Native.Nat.{ℕ, _/_, _%_}
 use lib.Dec.{ltb, eqb}
 use lib.ListN.{getD}
-use Rattle.rules.specs.Table.{variables, procedures, gatheredAreas}
+use Rattle.rules.specs.Table.{Program, variables, procedures, gatheredAreas}
 use Rattle.rules.specs.WellFormed.{expressionPart, statementPart}
 
 -- A role is 0 unnamed, 1 a variable, 2 an expression part, 3 a statement part, 4 a procedure, 5 half of a constant, 6 a gathered
@@ -32,12 +32,12 @@ unfoldable pub fieldZero : ℕ → ℕ → Bool
 fieldZero role value = not (eqb role 0) || eqb value 0
 
 -- question 9 of one field of node n
-unfoldable pub fieldFits : List ℕ → ℕ → ℕ → ℕ → Bool
-fieldFits table n role value =
-    cond (eqb role 1) (ltb value (variables table))
-    (cond (eqb role 2) (expressionPart table n value)
-    (cond (eqb role 3) (statementPart table n value)
-    (cond (eqb role 4) (ltb value (procedures table))
+unfoldable pub fieldFits : Program → ℕ → ℕ → ℕ → Bool
+fieldFits program n role value =
+    cond (eqb role 1) (ltb value (variables program))
+    (cond (eqb role 2) (expressionPart program n value)
+    (cond (eqb role 3) (statementPart program n value)
+    (cond (eqb role 4) (ltb value (procedures program))
     (cond (eqb role 6) (ltb value gatheredAreas) true))))
 
 -- the nodes that one field names

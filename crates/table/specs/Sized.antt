@@ -8,22 +8,22 @@ use Rattle.rules.specs.declared.Verdict.{Verdict}
 use Rattle.rules.specs.Answers.{_then_}
 use Rattle.rules.specs.WellFormed.{question2, question3, question4, question5}
 use lib.ListN.{length}
-use Rattle.rules.specs.Table.{variables, procedures, nodes}
+use Rattle.rules.specs.Table.{decode, variables, procedures, nodes}
 use Rattle.table.specs.declared.Header.{Header}
 use Rattle.table.specs.Header.{headerOf}
 
 pub record Sized (table : List ℕ) (header : Header) : Type 0 where
   pub read : header ≡ headerOf table
-  pub variables-read : header .variables ≡ variables table
-  pub procedures-read : header .procedures ≡ procedures table
-  pub nodes-read : header .nodes ≡ nodes table
-  pub variables-low : 1 ≤ variables table
-  pub variables-high : variables table ≤ 32
-  pub procedures-low : 1 ≤ procedures table
-  pub procedures-high : procedures table ≤ 16
-  pub nodes-low : 1 ≤ nodes table
-  pub nodes-high : nodes table ≤ 256
-  pub size : length table ≡ 4 * (2 + procedures table + nodes table)
+  pub variables-read : header .variables ≡ variables (decode table)
+  pub procedures-read : header .procedures ≡ procedures (decode table)
+  pub nodes-read : header .nodes ≡ nodes (decode table)
+  pub variables-low : 1 ≤ variables (decode table)
+  pub variables-high : variables (decode table) ≤ 32
+  pub procedures-low : 1 ≤ procedures (decode table)
+  pub procedures-high : procedures (decode table) ≤ 16
+  pub nodes-low : 1 ≤ nodes (decode table)
+  pub nodes-high : nodes (decode table) ≤ 256
+  pub size : length table ≡ 4 * (2 + procedures (decode table) + nodes (decode table))
 
 -- question 3, of word 0 and the counts that it packs
 abbrev pub headerTest : ℕ → Header → Bool

@@ -2,7 +2,7 @@
 ghost use mathlib.Core.Path.{_≡_};
 ghost use Prim.Native.Nat.{_<_};
 ghost use lib.ListN.{getD};
-ghost use Rattle.rules.specs.Table.{body};
+ghost use Rattle.rules.specs.Table.{decode, body};
 ghost use Rattle.rules.specs.WellFormed.{procedureFits, isExpression, isStatement, kindKnown, unnamedZero};
 ghost use Rattle.rules.specs.WellFormed.{expressionPart, statementPart, nodeFits};
 ghost use Rattle.table.specs.Roles.{roles, digit, roleOf, isPart, fieldZero, fieldFits};
@@ -113,14 +113,14 @@ pub fn procedure_fits(table: &[u8], header: Header, p: usize) -> bool
 
 pub fn is_expression(table: &[u8], header: Header, n: usize) -> bool
     requires { ⌜ Sized (now table) header × (n < header .nodes) ⌝ }
-    ensures { λ r. ⌜ r ≡ isExpression (now (table .entry)) n ⌝ }
+    ensures { λ r. ⌜ r ≡ isExpression (decode (now (table .entry))) n ⌝ }
 {
     node_at(table, header, n).kind <= LAST_EXPRESSION
 }
 
 pub fn is_statement(table: &[u8], header: Header, n: usize) -> bool
     requires { ⌜ Sized (now table) header × (n < header .nodes) ⌝ }
-    ensures { λ r. ⌜ r ≡ isStatement (now (table .entry)) n ⌝ }
+    ensures { λ r. ⌜ r ≡ isStatement (decode (now (table .entry))) n ⌝ }
 {
     between(
         FIRST_STATEMENT as usize,
@@ -132,7 +132,7 @@ pub fn is_statement(table: &[u8], header: Header, n: usize) -> bool
 // Question 7.
 pub fn kind_known(table: &[u8], header: Header, n: usize) -> bool
     requires { ⌜ Sized (now table) header × (n < header .nodes) ⌝ }
-    ensures { λ r. ⌜ r ≡ kindKnown (now (table .entry)) n ⌝ }
+    ensures { λ r. ⌜ r ≡ kindKnown (decode (now (table .entry))) n ⌝ }
 {
     if is_expression(table, header, n) {
         return true;
@@ -164,7 +164,7 @@ pub fn unnamed_zero(node: Node) -> bool
 
 fn expression_part(table: &[u8], header: Header, n: usize, a: usize) -> bool
     requires { ⌜ Sized (now table) header × (n < header .nodes) ⌝ }
-    ensures { λ r. ⌜ r ≡ expressionPart (now (table .entry)) n a ⌝ }
+    ensures { λ r. ⌜ r ≡ expressionPart (decode (now (table .entry))) n a ⌝ }
 {
     if n <= a {
         return false;
@@ -174,7 +174,7 @@ fn expression_part(table: &[u8], header: Header, n: usize, a: usize) -> bool
 
 fn statement_part(table: &[u8], header: Header, n: usize, a: usize) -> bool
     requires { ⌜ Sized (now table) header × (n < header .nodes) ⌝ }
-    ensures { λ r. ⌜ r ≡ statementPart (now (table .entry)) n a ⌝ }
+    ensures { λ r. ⌜ r ≡ statementPart (decode (now (table .entry))) n a ⌝ }
 {
     if n <= a {
         return false;
@@ -184,7 +184,7 @@ fn statement_part(table: &[u8], header: Header, n: usize, a: usize) -> bool
 
 pub fn field_fits(table: &[u8], header: Header, n: usize, role: u16, value: usize) -> bool
     requires { ⌜ Sized (now table) header × (n < header .nodes) ⌝ }
-    ensures { λ r. ⌜ r ≡ fieldFits (now (table .entry)) n role value ⌝ }
+    ensures { λ r. ⌜ r ≡ fieldFits (decode (now (table .entry))) n role value ⌝ }
 {
     if role == VARIABLE {
         return value < header.variables;
@@ -207,7 +207,7 @@ pub fn field_fits(table: &[u8], header: Header, n: usize, role: u16, value: usiz
 // Question 9.
 pub fn node_fits(table: &[u8], header: Header, n: usize) -> bool
     requires { ⌜ Sized (now table) header × (n < header .nodes) ⌝ }
-    ensures { λ r. ⌜ r ≡ nodeFits (now (table .entry)) n ⌝ }
+    ensures { λ r. ⌜ r ≡ nodeFits (decode (now (table .entry))) n ⌝ }
 {
     let node = node_at(table, header, n);
     if !field_fits(table, header, n, role(node.kind, A), node.a as usize) {
@@ -222,7 +222,7 @@ pub fn node_fits(table: &[u8], header: Header, n: usize) -> bool
 // Question 10. A body past the last node is no statement.
 pub fn body_is_statement(table: &[u8], header: Header, p: usize) -> bool
     requires { ⌜ Sized (now table) header × (p < header .procedures) ⌝ }
-    ensures { λ r. ⌜ r ≡ isStatement (now (table .entry)) (body (now (table .entry)) p) ⌝ }
+    ensures { λ r. ⌜ r ≡ isStatement (decode (now (table .entry))) (body (decode (now (table .entry))) p) ⌝ }
 {
     let first = body(table, p);
     if header.nodes <= first {

@@ -2,7 +2,7 @@
 ghost use mathlib.Core.Path.{_≡_};
 ghost use Prim.Native.Nat.{_+_, _*_, _<_, _≤_};
 ghost use lib.ListN.{length};
-ghost use Rattle.rules.specs.Table.{wordAt, flagged, body, effectFlag, unpacked, nodeAt};
+ghost use Rattle.rules.specs.Table.{decode, wordAt, procedures, flagged, body, effectFlag, unpacked, nodeAt};
 ghost use Rattle.table.specs.Header.{headerOf};
 use crate::Header;
 use rules::Node;
@@ -38,21 +38,21 @@ pub fn header(table: &[u8]) -> Header
 
 pub fn flagged(table: &[u8], a: usize) -> bool
     requires { ⌜ (8 ≤ length (now table)) × (a < 32) ⌝ }
-    ensures { λ r. ⌜ r ≡ flagged (now (table .entry)) a ⌝ }
+    ensures { λ r. ⌜ r ≡ flagged (decode (now (table .entry))) a ⌝ }
 {
     (word(table, 1) >> (31 - a)) % 2 == 1
 }
 
 pub fn body(table: &[u8], p: usize) -> usize
-    requires { ⌜ 4 * (2 + p) + 3 < length (now table) ⌝ }
-    ensures { λ r. ⌜ r ≡ body (now (table .entry)) p ⌝ }
+    requires { ⌜ (4 * (2 + p) + 3 < length (now table)) × (p < procedures (decode (now table))) ⌝ }
+    ensures { λ r. ⌜ r ≡ body (decode (now (table .entry))) p ⌝ }
 {
     (word(table, 2 + p) / 16777216) as usize
 }
 
 pub fn effect_flag(table: &[u8], p: usize) -> bool
-    requires { ⌜ 4 * (2 + p) + 3 < length (now table) ⌝ }
-    ensures { λ r. ⌜ r ≡ effectFlag (now (table .entry)) p ⌝ }
+    requires { ⌜ (4 * (2 + p) + 3 < length (now table)) × (p < procedures (decode (now table))) ⌝ }
+    ensures { λ r. ⌜ r ≡ effectFlag (decode (now (table .entry))) p ⌝ }
 {
     word(table, 2 + p) / 8388608 % 2 == 1
 }
@@ -70,7 +70,7 @@ pub fn unpacked(packed: u32) -> Node
 
 pub fn node_at(table: &[u8], header: Header, n: usize) -> Node
     requires { ⌜ (header ≡ headerOf (now table)) × (4 * (2 + header .procedures + n) + 3 < length (now table)) ⌝ }
-    ensures { λ r. ⌜ r ≡ nodeAt (now (table .entry)) n ⌝ }
+    ensures { λ r. ⌜ r ≡ nodeAt (decode (now (table .entry))) n ⌝ }
 {
     unpacked(word(table, 2 + header.procedures + n))
 }
@@ -84,7 +84,7 @@ pub fn kind_of(packed: u32) -> u32
 
 pub fn kind_at(table: &[u8], header: Header, n: usize) -> u32
     requires { ⌜ (header ≡ headerOf (now table)) × (4 * (2 + header .procedures + n) + 3 < length (now table)) ⌝ }
-    ensures { λ r. ⌜ r ≡ nodeAt (now (table .entry)) n .kind ⌝ }
+    ensures { λ r. ⌜ r ≡ nodeAt (decode (now (table .entry))) n .kind ⌝ }
 {
     kind_of(word(table, 2 + header.procedures + n))
 }
@@ -93,7 +93,7 @@ pub fn kind_at(table: &[u8], header: Header, n: usize) -> u32
 // where that field is asked for.
 pub fn packed_at(table: &[u8], header: Header, n: usize) -> u32
     requires { ⌜ (header ≡ headerOf (now table)) × (4 * (2 + header .procedures + n) + 3 < length (now table)) × (n < header .nodes) ⌝ }
-    ensures { λ r. ⌜ unpacked r ≡ nodeAt (now (table .entry)) n ⌝ }
+    ensures { λ r. ⌜ unpacked r ≡ nodeAt (decode (now (table .entry))) n ⌝ }
 {
     if n < header.nodes {
         return word(table, 2 + header.procedures + n);

@@ -18,6 +18,7 @@ use Rattle.rules.specs.Process.{mostProcesses, environment, processAt, depth, t
 use Rattle.rules.proofs.ChoiceLaws.{bool-cases}
 use Rattle.rules.specs.Start.{question18, question19, question20, startVerdict, startRoll, startedBy, started}
 use Rattle.rules.specs.Step.{Outcome, processesIn, question22, question23, question24, teamVerdict, stepVerdict, moved, completed, arrivedAt, stepRunning, stepTaken, steppedBy, stepped}
+use Rattle.rules.specs.Table.{Program, decode}
 use Rattle.rules.specs.Table.{Collective, Statement, nothing, assign, sequence, branch, loop, call, latch, collective, leave, statementAt, onCollective}
 use Rattle.rules.specs.WellFormed.{wellFormed}
 use Rattle.team.proofs.Recorded.{Recorded, recorded-with, recorded-each, long-21, then-refused, Call}
@@ -25,18 +26,18 @@ use Rattle.team.proofs.Recorded.{Recorded, recorded-with, recorded-each
 -- ---- a start
 module _ (table : List ℕ) (count : ℕ) (words state : List ℕ) where
   -- the refusal of every roll that is too long
-  long-start : (r : Refusal) × ((wellFormed table then question18 count then question19 table count words then question20 count state then refused 21 0) ≡ Refused r)
+  long-start : (r : Refusal) × ((wellFormed table then question18 count then question19 (decode table) count words then question20 count state then refused 21 0) ≡ Refused r)
   long-start =
       let last : (r : Refusal) × (refused 21 0 ≡ Refused r) = (record { number = 21; place = 0 }, refl) in
-      then-refused (wellFormed table) _ (then-refused (question18 count) _ (then-refused (question19 table count words) _ (then-refused (question20 count state) _ last)))
+      then-refused (wellFormed table) _ (then-refused (question18 count) _ (then-refused (question19 (decode table) count words) _ (then-refused (question20 count state) _ last)))
 
   long-started : (roll : List ℕ) → arrivalSize * mostProcesses < length roll → started table count words state roll ≡ record { answer = Refused (long-start .0); state = state; roll = roll }
   unfolding started startedBy startVerdict
   long-started roll l =
-      ap (λ (v : Verdict). startedBy (wellFormed table then question18 count then question19 table count words then question20 count state then v) table count words state roll) (long-21 count roll l)
-      ∙ ap (λ (v : Verdict). startedBy v table count words state roll) (long-start .1)
+      ap (λ (v : Verdict). startedBy (wellFormed table then question18 count then question19 (decode table) count words then question20 count state then v) (decode table) count words state roll) (long-21 count roll l)
+      ∙ ap (λ (v : Verdict). startedBy v (decode table) count words state roll) (long-start .1)
 
-  by-verdict : (v : Verdict) (n : ℕ) (roll : List ℕ) → Recorded n roll → Recorded n (startedBy v table count words state roll .roll)
+  by-verdict : (v : Verdict) (n : ℕ) (roll : List ℕ) → Recorded n roll → Recorded n (startedBy v (decode table) count words state roll .roll)
   unfolding startedBy startRoll
   by-verdict Accepted n roll h = recorded-each n roll (λ p. runningRecord) count h
   by-verdict (Refused r) n roll h = h
@@ -63,8 +64,8 @@ module _ (table state : List ℕ) (p : ℕ) where
   unfolding stepped steppedBy stepVerdict teamVerdict
   long-stepped roll l =
       ap (λ (v : Verdict). steppedBy ((wellFormed table then v then question20 (processesIn roll) state then question22 (processesIn roll) p
-      then question23 table state roll (processesIn roll)) then question24 table state roll (processesIn roll) p) table state roll p) (long-21 (processesIn roll) roll l)
-      ∙ ap (λ (v : Verdict). steppedBy (v then question24 table state roll (processesIn roll) p) table state roll p) (long-step .1)
+      then question23 (decode table) state roll (processesIn roll)) then question24 (decode table) state roll (processesIn roll) p) (decode table) state roll p) (long-21 (processesIn roll) roll l)
+      ∙ ap (λ (v : Verdict). steppedBy (v then question24 (decode table) state roll (processesIn roll) p) (decode table) state roll p) (long-step .1)
 
 module _ (n : ℕ) where
   -- an outcome that leaves the words of n records
@@ -94,32 +95,32 @@ module _ (n : ℕ) where
       ⊎-elim (λ (e : allAtOneNode roll count ≡ true). simp e (recorded-each n roll (λ p. cond (eqb (depth (processAt after p)) 0) endedRecord runningRecord) count h))
       (λ (e : allAtOneNode roll count ≡ false). simp e h) (bool-cases (allAtOneNode roll count))
 
-  running-recorded : (table state roll : List ℕ) (count p : ℕ) → Recorded n roll → Keeps (stepRunning table state roll count p)
+  running-recorded : (program : Program) (state roll : List ℕ) (count p : ℕ) → Recorded n roll → Keeps (stepRunning program state roll count p)
   unfolding stepRunning
-  running-recorded table state roll count p h =
+  running-recorded program state roll count p h =
       let words : List ℕ = processAt state p in
       let env : Environment = environment words p count in
-      on-collective (statementAt table (top words)) (λ meeting. arrivedAt state (withArrival roll p (arrivalOf table env (top words) meeting)) count (top words) meeting)
-      (moved state roll count p (advanced table env words (statementAt table (top words))))
-      (λ meeting. arrived-recorded state (withArrival roll p (arrivalOf table env (top words) meeting)) count (top words) meeting (recorded-with n roll p (arrivalOf table env (top words) meeting) h))
-      (moved-recorded state roll count p (advanced table env words (statementAt table (top words))) h)
+      on-collective (statementAt program (top words)) (λ meeting. arrivedAt state (withArrival roll p (arrivalOf program env (top words) meeting)) count (top words) meeting)
+      (moved state roll count p (advanced program env words (statementAt program (top words))))
+      (λ meeting. arrived-recorded state (withArrival roll p (arrivalOf program env (top words) meeting)) count (top words) meeting (recorded-with n roll p (arrivalOf program env (top words) meeting) h))
+      (moved-recorded state roll count p (advanced program env words (statementAt program (top words))) h)
 
-  taken-recorded : (table state roll : List ℕ) (count p : ℕ) → Recorded n roll → Keeps (stepTaken table state roll count p)
+  taken-recorded : (program : Program) (state roll : List ℕ) (count p : ℕ) → Recorded n roll → Keeps (stepTaken program state roll count p)
   unfolding stepTaken
-  taken-recorded table state roll count p h =
-      ⊎-elim (λ (e : eqb (statusAt roll p) running ≡ true). simp e (running-recorded table state roll count p h))
+  taken-recorded program state roll count p h =
+      ⊎-elim (λ (e : eqb (statusAt roll p) running ≡ true). simp e (running-recorded program state roll count p h))
       (λ (e : eqb (statusAt roll p) running ≡ false).
       ⊎-elim (λ (f : eqb (statusAt roll p) waiting ≡ true). simp (e, f) h) (λ (f : eqb (statusAt roll p) waiting ≡ false). simp (e, f) h) (bool-cases (eqb (statusAt roll p) waiting)))
       (bool-cases (eqb (statusAt roll p) running))
 
-  by-step-verdict : (v : Verdict) (table state roll : List ℕ) (p : ℕ) → Recorded n roll → Keeps (steppedBy v table state roll p)
+  by-step-verdict : (v : Verdict) (program : Program) (state roll : List ℕ) (p : ℕ) → Recorded n roll → Keeps (steppedBy v program state roll p)
   unfolding steppedBy
-  by-step-verdict Accepted table state roll p h = taken-recorded table state roll (processesIn roll) p h
-  by-step-verdict (Refused r) table state roll p h = h
+  by-step-verdict Accepted program state roll p h = taken-recorded program state roll (processesIn roll) p h
+  by-step-verdict (Refused r) program state roll p h = h
 
   step-recorded : (table state roll : List ℕ) (p : ℕ) → Recorded n roll → Keeps (stepped table state roll p)
   unfolding stepped
-  step-recorded table state roll p h = by-step-verdict (stepVerdict table state roll p) table state roll p h
+  step-recorded table state roll p h = by-step-verdict (stepVerdict table state roll p) (decode table) state roll p h
 
 pub step-call : (table state : List ℕ) (p : ℕ) → Call (λ roll. stepped table state roll p .answer) (λ roll. stepped table state roll p .state) (λ roll. stepped table state roll p .roll)
 step-call table state p = record {

@@ -13,7 +13,7 @@ use Rattle.rules.specs.declared.Node.{Node}
 use Rattle.rules.specs.Acceptance.{ruleOf}
 use Rattle.rules.specs.Below.{below, atNode}
 use Rattle.rules.specs.Judgement.{singleOf, single, effectOf, effect}
-use Rattle.rules.specs.Table.{lastStatement, flagged, nodeAt, expressionOf, expressionAt, statementOf, statementAt}
+use Rattle.rules.specs.Table.{Program, lastStatement, flagged, nodeAt, expressionOf, expressionAt, statementOf, statementAt}
 use Rattle.rules.specs.Table.{Statement, nothing}
 use Rattle.rules.specs.WellFormed.{isExpression, isStatement}
 use Rattle.rules.proofs.AnswerLaws.{both-left}
@@ -26,22 +26,22 @@ use Rattle.visit.specs.Facts.{Reading, fact, ruleCode, guardCode, PlaneT
 use Rattle.visit.specs.Least.{none, code, failure}
 
 -- readings: the one by which every node counts as what it is
-abbrev pub whole : (table : List ℕ) (n end : ℕ) → Reading table n end
-whole table n end = record { counts = statementAt table; each = λ k. inl refl; here = λ k from to. refl }
+abbrev pub whole : (program : Program) (n end : ℕ) → Reading program n end
+whole program n end = record { counts = statementAt program; each = λ k. inl refl; here = λ k from to. refl }
 
 -- one of a stretch is one of its last node, and of those before that
-module _ {table : List ℕ} {first : ℕ} (n : ℕ) where
-  abbrev pub earlier-of : Reading table first (n + 1) → Reading table first n
+module _ {program : Program} {first : ℕ} (n : ℕ) where
+  abbrev pub earlier-of : Reading program first (n + 1) → Reading program first n
   earlier-of reading =
       record { counts = reading .counts; each = reading .each; here = λ k from to. reading .here k from (omega arith) }
 
-  abbrev pub last-of : first ≤ n → Reading table first (n + 1) → Reading table n (n + 1)
+  abbrev pub last-of : first ≤ n → Reading program first (n + 1) → Reading program n (n + 1)
   last-of low reading =
       record { counts = reading .counts; each = reading .each; here = λ k from to. reading .here k (omega arith) to }
 
 -- by one of node n it counts as what it is
-pub as-it-is : {table : List ℕ} {n : ℕ} (reading : Reading table n (n + 1)) → reading .counts n ≡ statementAt table n
-as-it-is {table} {n} reading = reading .here n (omega arith) (omega arith)
+pub as-it-is : {program : Program} {n : ℕ} (reading : Reading program n (n + 1)) → reading .counts n ≡ statementAt program n
+as-it-is {program} {n} reading = reading .here n (omega arith) (omega arith)
 
 -- a plane
 
@@ -84,20 +84,20 @@ module _ (test : ℕ → Bool) (n : ℕ) (before after : List ℕ) (low : n < 25
 -- a node and its parts
 
 -- what is judged of node a where the nodes below n are
-unfoldable pub earlierSingle : List ℕ → ℕ → ℕ → Bool
-earlierSingle table n a =
-    getD (below (λ earlier k. singleOf table (λ i. getD earlier i false) (expressionAt table k)) n) a false
+unfoldable pub earlierSingle : Program → ℕ → ℕ → Bool
+earlierSingle program n a =
+    getD (below (λ earlier k. singleOf program (λ i. getD earlier i false) (expressionAt program k)) n) a false
 
-unfoldable pub earlierEffect : List ℕ → (ℕ → Statement) → ℕ → ℕ → Bool
-earlierEffect table reading n a =
-    getD (below (λ earlier k. effectOf table (λ i. getD earlier i false) (reading k)) n) a false
+unfoldable pub earlierEffect : Program → (ℕ → Statement) → ℕ → ℕ → Bool
+earlierEffect program reading n a =
+    getD (below (λ earlier k. effectOf program (λ i. getD earlier i false) (reading k)) n) a false
 
-module _ (table : List ℕ) (reading : ℕ → Statement) (n : ℕ) where
-  single-once : single table n ≡ singleOf table (earlierSingle table n) (expressionOf (nodeAt table n))
+module _ (program : Program) (reading : ℕ → Statement) (n : ℕ) where
+  single-once : single program n ≡ singleOf program (earlierSingle program n) (expressionOf (nodeAt program n))
   unfolding single atNode earlierSingle expressionAt
   single-once = refl
 
-  effect-once : effect table reading n ≡ effectOf table (earlierEffect table reading n) (reading n)
+  effect-once : effect program reading n ≡ effectOf program (earlierEffect program reading n) (reading n)
   unfolding effect atNode earlierEffect
   effect-once = refl
 
@@ -105,46 +105,46 @@ module _ (table : List ℕ) (reading : ℕ → Statement) (n : ℕ) where
   unfoldable pub once : Node → Bool
   unfolding expressionOf statementOf singleOf effectOf
   once m =
-      not (singleOf table (earlierSingle table n) (expressionOf m)) || effectOf table (earlierEffect table reading n) (statementOf m)
+      not (singleOf program (earlierSingle program n) (expressionOf m)) || effectOf program (earlierEffect program reading n) (statementOf m)
 
-  fact-once : reading n ≡ statementAt table n → fact table reading n ≡ once (nodeAt table n)
+  fact-once : reading n ≡ statementAt program n → fact program reading n ≡ once (nodeAt program n)
   unfolding fact once statementAt
   fact-once here = rw (single-once, effect-once, here)
 
   -- a node is of one sort
 
-  pub fact-expression : (reading n ≡ statementAt table n) ⊎ (reading n ≡ nothing) → isExpression table n ≡ true → fact table reading n ≡ not (single table n)
+  pub fact-expression : (reading n ≡ statementAt program n) ⊎ (reading n ≡ nothing) → isExpression program n ≡ true → fact program reading n ≡ not (single program n)
   unfolding fact isExpression statementAt statementOf effectOf
   fact-expression either e =
-      let low = leb-true (nodeAt table n .kind) 12 e in
-      let other : nodeAt table n .kind - 16 ≡ 0 = omega arith in
-      let free : effect table reading n ≡ false =
+      let low = leb-true (nodeAt program n .kind) 12 e in
+      let other : nodeAt program n .kind - 16 ≡ 0 = omega arith in
+      let free : effect program reading n ≡ false =
       effect-once
-      ∙ ⊎-elim (λ (here : reading n ≡ statementAt table n). rw here (simp other)) (λ (dead : reading n ≡ nothing). rw dead)
+      ∙ ⊎-elim (λ (here : reading n ≡ statementAt program n). rw here (simp other)) (λ (dead : reading n ≡ nothing). rw dead)
       either in
       simp (free, or-false)
 
-  pub fact-statement : isStatement table n ≡ true → fact table reading n ≡ effect table reading n
+  pub fact-statement : isStatement program n ≡ true → fact program reading n ≡ effect program reading n
   unfolding fact isStatement expressionOf singleOf
   fact-statement e =
-      let kind = nodeAt table n .kind in
+      let kind = nodeAt program n .kind in
       let high = leb-true 16 kind (both-left (leb 16 kind) (leb kind lastStatement) e) in
       let other : kind ≡ suc (suc (suc (suc (suc (suc (suc (suc (suc (suc (suc (suc (suc (kind - 13))))))))))))) = omega arith in
-      let free : single table n ≡ true = single-once ∙ rw other in
+      let free : single program n ≡ true = single-once ∙ rw other in
       simp free
 
-  single-fact : (reading n ≡ statementAt table n) ⊎ (reading n ≡ nothing) → isExpression table n ≡ true → single table n ≡ not (fact table reading n)
+  single-fact : (reading n ≡ statementAt program n) ⊎ (reading n ≡ nothing) → isExpression program n ≡ true → single program n ≡ not (fact program reading n)
   single-fact either e = simp (fact-expression either e, Bool·not-not)
 
 -- parts that lie below the node
-module _ (table : List ℕ) (n : ℕ) (reading : Reading table n (n + 1)) (a : ℕ) (l : a < n) where
-  single-part : isExpression table a ≡ true → earlierSingle table n a ≡ not (fact table (reading .counts) a)
+module _ (program : Program) (n : ℕ) (reading : Reading program n (n + 1)) (a : ℕ) (l : a < n) where
+  single-part : isExpression program a ≡ true → earlierSingle program n a ≡ not (fact program (reading .counts) a)
   unfolding earlierSingle single
-  single-part e = below-at _ n a false l ∙ single-fact table (reading .counts) a (reading .each a) e
+  single-part e = below-at _ n a false l ∙ single-fact program (reading .counts) a (reading .each a) e
 
-  effect-part : isStatement table a ≡ true → earlierEffect table (reading .counts) n a ≡ fact table (reading .counts) a
+  effect-part : isStatement program a ≡ true → earlierEffect program (reading .counts) n a ≡ fact program (reading .counts) a
   unfolding earlierEffect effect
-  effect-part e = below-at _ n a false l ∙ sym (fact-statement table (reading .counts) a e)
+  effect-part e = below-at _ n a false l ∙ sym (fact-statement program (reading .counts) a e)
 
 -- laws of tests
 
@@ -165,103 +165,103 @@ swapped false true p = refl
 swapped false false p = refl
 
 -- by kind
-module _ (table : List ℕ) (n : ℕ) (reading : Reading table n (n + 1)) where
+module _ (program : Program) (n : ℕ) (reading : Reading program n (n + 1)) where
   abbrev counts : ℕ → Statement
   counts = reading .counts
 
   abbrev kind : ℕ
-  kind = nodeAt table n .kind
+  kind = nodeAt program n .kind
 
   abbrev a : ℕ
-  a = nodeAt table n .a
+  a = nodeAt program n .a
 
   abbrev b : ℕ
-  b = nodeAt table n .b
+  b = nodeAt program n .b
 
   abbrev c : ℕ
-  c = nodeAt table n .c
+  c = nodeAt program n .c
 
   -- kinds whose parts do not matter
 
-  pub fact-as : (k : ℕ) → kind ≡ k → fact table counts n ≡ once table counts n (record { kind = k; a = a; b = b; c = c })
-  fact-as k e = fact-once table counts n (as-it-is reading) ∙ rw (← e) refl
+  pub fact-as : (k : ℕ) → kind ≡ k → fact program counts n ≡ once program counts n (record { kind = k; a = a; b = b; c = c })
+  fact-as k e = fact-once program counts n (as-it-is reading) ∙ rw (← e) refl
 
-  pub fact-1 : kind ≡ 1 → fact table counts n ≡ not (flagged table a)
+  pub fact-1 : kind ≡ 1 → fact program counts n ≡ not (flagged program a)
   unfolding once
-  fact-1 e = fact-once table counts n (as-it-is reading) ∙ simp (e, or-false)
+  fact-1 e = fact-once program counts n (as-it-is reading) ∙ simp (e, or-false)
 
-  pub fact-17 : kind ≡ 17 → fact table counts n ≡ flagged table a
+  pub fact-17 : kind ≡ 17 → fact program counts n ≡ flagged program a
   unfolding once
-  fact-17 e = fact-once table counts n (as-it-is reading) ∙ simp e
+  fact-17 e = fact-once program counts n (as-it-is reading) ∙ simp e
 
-  pub fact-24 : kind ≡ 24 → fact table counts n ≡ true
+  pub fact-24 : kind ≡ 24 → fact program counts n ≡ true
   unfolding once
-  fact-24 e = fact-once table counts n (as-it-is reading) ∙ simp e
+  fact-24 e = fact-once program counts n (as-it-is reading) ∙ simp e
 
   -- expressions of parts
 
-  pub fact-5 : kind ≡ 5 → a < n → isExpression table a ≡ true → fact table counts n ≡ fact table counts a
+  pub fact-5 : kind ≡ 5 → a < n → isExpression program a ≡ true → fact program counts n ≡ fact program counts a
   unfolding once
-  fact-5 e l s = fact-once table counts n (as-it-is reading) ∙ simp (e, or-false, single-part table n reading a l s, Bool·not-not)
+  fact-5 e l s = fact-once program counts n (as-it-is reading) ∙ simp (e, or-false, single-part program n reading a l s, Bool·not-not)
 
-  pub fact-operation : 6 ≤ kind → kind ≤ 12 → a < n → b < n → isExpression table a ≡ true → isExpression table b ≡ true
-      → fact table counts n ≡ (fact table counts a || fact table counts b)
+  pub fact-operation : 6 ≤ kind → kind ≤ 12 → a < n → b < n → isExpression program a ≡ true → isExpression program b ≡ true
+      → fact program counts n ≡ (fact program counts a || fact program counts b)
   unfolding once
   fact-operation low high l m s t =
       let other : kind - 16 ≡ 0 = omega arith in
-      let first = single-part table n reading a l s in
-      let second = single-part table n reading b m t in
-      fact-once table counts n (as-it-is reading)
-      ∙ simp (operation-of (nodeAt table n) low high, other, or-false, first, second, neither, Bool·not-not)
+      let first = single-part program n reading a l s in
+      let second = single-part program n reading b m t in
+      fact-once program counts n (as-it-is reading)
+      ∙ simp (operation-of (nodeAt program n) low high, other, or-false, first, second, neither, Bool·not-not)
 
   -- statements of parts
 
-  pub fact-18 : kind ≡ 18 → a < n → b < n → isStatement table a ≡ true → isStatement table b ≡ true
-      → fact table counts n ≡ (fact table counts a || fact table counts b)
+  pub fact-18 : kind ≡ 18 → a < n → b < n → isStatement program a ≡ true → isStatement program b ≡ true
+      → fact program counts n ≡ (fact program counts a || fact program counts b)
   unfolding once
-  fact-18 e l m s t = fact-once table counts n (as-it-is reading) ∙ simp (e, effect-part table n reading a l s, effect-part table n reading b m t)
+  fact-18 e l m s t = fact-once program counts n (as-it-is reading) ∙ simp (e, effect-part program n reading a l s, effect-part program n reading b m t)
 
-  pub fact-19 : kind ≡ 19 → b < n → c < n → isStatement table b ≡ true → isStatement table c ≡ true
-      → fact table counts n ≡ (fact table counts b || fact table counts c)
+  pub fact-19 : kind ≡ 19 → b < n → c < n → isStatement program b ≡ true → isStatement program c ≡ true
+      → fact program counts n ≡ (fact program counts b || fact program counts c)
   unfolding once
-  fact-19 e l m s t = fact-once table counts n (as-it-is reading) ∙ simp (e, effect-part table n reading b l s, effect-part table n reading c m t)
+  fact-19 e l m s t = fact-once program counts n (as-it-is reading) ∙ simp (e, effect-part program n reading b l s, effect-part program n reading c m t)
 
-  pub fact-20 : kind ≡ 20 → b < n → isStatement table b ≡ true → fact table counts n ≡ fact table counts b
+  pub fact-20 : kind ≡ 20 → b < n → isStatement program b ≡ true → fact program counts n ≡ fact program counts b
   unfolding once
-  fact-20 e l s = fact-once table counts n (as-it-is reading) ∙ simp (e, effect-part table n reading b l s)
+  fact-20 e l s = fact-once program counts n (as-it-is reading) ∙ simp (e, effect-part program n reading b l s)
 
   -- the refusals by 13 to 16
 
-  pub rule-none : (kind ≡ 17 → ⊥) → (kind ≡ 19 → ⊥) → (kind ≡ 20 → ⊥) → (kind ≡ 24 → ⊥) → guardCode table counts n ≡ none
+  pub rule-none : (kind ≡ 17 → ⊥) → (kind ≡ 19 → ⊥) → (kind ≡ 20 → ⊥) → (kind ≡ 24 → ⊥) → guardCode program counts n ≡ none
   unfolding guardCode ruleCode ruleOf statementAt
   rule-none p q r s =
       simp (ne-eqb kind 20 r)
       (rw (as-it-is reading)
-      (by-kind (λ t. failure (ruleOf table counts t .question) n (ruleOf table counts t .holds) ≡ none) (nodeAt table n)
+      (by-kind (λ t. failure (ruleOf program counts t .question) n (ruleOf program counts t .holds) ≡ none) (nodeAt program n)
       (λ e. absurd (p e)) (λ e. refl) (λ e. absurd (q e)) (λ e. absurd (r e)) (λ e. refl) (λ e. refl) (λ e. refl)
       (λ e. absurd (s e)) (λ e. refl) (λ e. refl) refl))
 
-  pub rule-17 : kind ≡ 17 → isExpression table b ≡ true
-      → guardCode table counts n ≡ cond (flagged table a) (cond (fact table counts b) (code 13 n) none) none
+  pub rule-17 : kind ≡ 17 → isExpression program b ≡ true
+      → guardCode program counts n ≡ cond (flagged program a) (cond (fact program counts b) (code 13 n) none) none
   unfolding guardCode ruleCode ruleOf statementAt statementOf
-  rule-17 e s = simp (as-it-is reading, e, single-fact table counts b (reading .each b) s) (fails-both 13 n (flagged table a) (fact table counts b))
+  rule-17 e s = simp (as-it-is reading, e, single-fact program counts b (reading .each b) s) (fails-both 13 n (flagged program a) (fact program counts b))
 
-  pub rule-24 : kind ≡ 24 → isExpression table c ≡ true
-      → guardCode table counts n ≡ cond (fact table counts c) (code 14 n) none
+  pub rule-24 : kind ≡ 24 → isExpression program c ≡ true
+      → guardCode program counts n ≡ cond (fact program counts c) (code 14 n) none
   unfolding guardCode ruleCode ruleOf statementAt statementOf
-  rule-24 e s = simp (as-it-is reading, e, single-fact table counts c (reading .each c) s) (fails-both 14 n true (fact table counts c))
+  rule-24 e s = simp (as-it-is reading, e, single-fact program counts c (reading .each c) s) (fails-both 14 n true (fact program counts c))
 
-  pub rule-19 : kind ≡ 19 → isExpression table a ≡ true → isStatement table b ≡ true → isStatement table c ≡ true
-      → guardCode table counts n ≡ cond (fact table counts b || fact table counts c) (cond (fact table counts a) (code 15 n) none) none
+  pub rule-19 : kind ≡ 19 → isExpression program a ≡ true → isStatement program b ≡ true → isStatement program c ≡ true
+      → guardCode program counts n ≡ cond (fact program counts b || fact program counts c) (cond (fact program counts a) (code 15 n) none) none
   unfolding guardCode ruleCode ruleOf statementAt statementOf
   rule-19 e s t u =
-      simp (as-it-is reading, e, single-fact table counts a (reading .each a) s, ← fact-statement table counts b t, ← fact-statement table counts c u, neither)
-      (fails-both 15 n (fact table counts a) (fact table counts b || fact table counts c)
-      ∙ swapped (fact table counts a) (fact table counts b || fact table counts c) (code 15 n))
+      simp (as-it-is reading, e, single-fact program counts a (reading .each a) s, ← fact-statement program counts b t, ← fact-statement program counts c u, neither)
+      (fails-both 15 n (fact program counts a) (fact program counts b || fact program counts c)
+      ∙ swapped (fact program counts a) (fact program counts b || fact program counts c) (code 15 n))
 
-  pub rule-20 : kind ≡ 20 → isExpression table a ≡ true
-      → guardCode table counts n ≡ cond (fact table counts n) (cond (fact table counts a) (code 16 n) none) none
+  pub rule-20 : kind ≡ 20 → isExpression program a ≡ true
+      → guardCode program counts n ≡ cond (fact program counts n) (cond (fact program counts a) (code 16 n) none) none
   unfolding guardCode isStatement
   rule-20 e s =
-      simp (e, single-fact table counts a (reading .each a) s, ← fact-statement table counts n (simp e))
-      (fails-both 16 n (fact table counts a) (fact table counts n) ∙ swapped (fact table counts a) (fact table counts n) (code 16 n))
+      simp (e, single-fact program counts a (reading .each a) s, ← fact-statement program counts n (simp e))
+      (fails-both 16 n (fact program counts a) (fact program counts n) ∙ swapped (fact program counts a) (fact program counts n) (code 16 n))

@@ -10,7 +10,7 @@ use lib.Dec.{leb, eqb}
 use lib.ListN.{getD}
 use borrow.Author.Tests.{ltb-true, not-true, eqb-false}
 use Rattle.rules.specs.declared.Node.{Node}
-use Rattle.rules.specs.Table.{Statement, nothing, assign, sequence, branch, loop, call, latch, collective, leave}
+use Rattle.rules.specs.Table.{Program, Statement, nothing, assign, sequence, branch, loop, call, latch, collective, leave}
 use Rattle.rules.specs.Table.{nodeAt, statementOf, statementAt, firstStatement, lastExpression, lastStatement}
 use Rattle.rules.specs.WellFormed.{isExpression, isStatement, kindKnown, unnamedZero, nodeFits, partsAt}
 use Rattle.rules.proofs.AnswerLaws.{both-left, both-right}
@@ -62,9 +62,9 @@ free-kept m r x s y free apart part =
     (bool-cases (isPart r))
 
 -- what the test of a field says
-module _ (table m : List ℕ) (v : Visit) (role value : ℕ) (h : fieldFree table m v role value ≡ true) where
+module _ (program : Program) (m : List ℕ) (v : Visit) (role value : ℕ) (h : fieldFree program m v role value ≡ true) where
   abbrev fits : Bool
-  fits = fieldFits table (v .node) role value
+  fits = fieldFits program (v .node) role value
 
   abbrev inside : Bool
   inside = within (v .limit) role value
@@ -90,22 +90,22 @@ module _ (table m : List ℕ) (v : Visit) (role value : ℕ) (h : fieldFree tabl
   free-inside = both-left inside _ from-inside
 
   pub part-low : isPart role ≡ true → value < v .node
-  part-low part = part-below table (v .node) role value free-fits part
+  part-low part = part-below program (v .node) role value free-fits part
 
   pub free-bit : Free m role value
   free-bit part = not-true (bitAt m value) (simp part at (both-right inside _ from-inside))
 
 -- the three fields
 
-pub record Three (table m : List ℕ) (v : Visit) (node : Node) (roles : ℕ) : Type 0 where
-  pub a : fieldFree table m v (digit roles 100) (node .a) ≡ true
-  pub b : fieldFree table m v (digit roles 10) (node .b) ≡ true
-  pub c : fieldFree table m v (digit roles 1) (node .c) ≡ true
+pub record Three (program : Program) (m : List ℕ) (v : Visit) (node : Node) (roles : ℕ) : Type 0 where
+  pub a : fieldFree program m v (digit roles 100) (node .a) ≡ true
+  pub b : fieldFree program m v (digit roles 10) (node .b) ≡ true
+  pub c : fieldFree program m v (digit roles 1) (node .c) ≡ true
   pub a-b : distinct (digit roles 100) (node .a) (digit roles 10) (node .b) ≡ true
   pub a-c : distinct (digit roles 100) (node .a) (digit roles 1) (node .c) ≡ true
   pub b-c : distinct (digit roles 10) (node .b) (digit roles 1) (node .c) ≡ true
 
-module _ (table m : List ℕ) (v : Visit) (node : Node) (roles : ℕ) where
+module _ (program : Program) (m : List ℕ) (v : Visit) (node : Node) (roles : ℕ) where
   abbrev ra : ℕ
   ra = digit roles 100
 
@@ -115,27 +115,27 @@ module _ (table m : List ℕ) (v : Visit) (node : Node) (roles : ℕ) where
   abbrev rc : ℕ
   rc = digit roles 1
 
-  pub three : fieldsFree table m v node roles ≡ true → Three table m v node roles
+  pub three : fieldsFree program m v node roles ≡ true → Three program m v node roles
   unfolding fieldsFree
   three h =
-      let from-b = both-right (fieldFree table m v ra (node .a)) _ h in
-      let from-c = both-right (fieldFree table m v rb (node .b)) _ from-b in
-      let pairs = both-right (fieldFree table m v rc (node .c)) _ from-c in
+      let from-b = both-right (fieldFree program m v ra (node .a)) _ h in
+      let from-c = both-right (fieldFree program m v rb (node .b)) _ from-b in
+      let pairs = both-right (fieldFree program m v rc (node .c)) _ from-c in
       let last = both-right (distinct ra (node .a) rb (node .b)) _ pairs in
       record {
-        a = both-left (fieldFree table m v ra (node .a)) _ h;
-        b = both-left (fieldFree table m v rb (node .b)) _ from-b;
-        c = both-left (fieldFree table m v rc (node .c)) _ from-c;
+        a = both-left (fieldFree program m v ra (node .a)) _ h;
+        b = both-left (fieldFree program m v rb (node .b)) _ from-b;
+        c = both-left (fieldFree program m v rc (node .c)) _ from-c;
         a-b = both-left (distinct ra (node .a) rb (node .b)) _ pairs;
         a-c = both-left (distinct ra (node .a) rc (node .c)) _ last;
         b-c = both-right (distinct ra (node .a) rc (node .c)) _ last;
       }
 
-  pub three-free : Three table m v node roles → fieldsFree table m v node roles ≡ true
+  pub three-free : Three program m v node roles → fieldsFree program m v node roles ≡ true
   unfolding fieldsFree
   three-free t = simp (t .a, t .b, t .c, t .a-b, t .a-c, t .b-c)
 
-  module _ (t : Three table m v node roles) where
+  module _ (t : Three program m v node roles) where
     abbrev pub after-a : List ℕ
     after-a = withBits m (fieldParts ra (node .a))
 
@@ -143,17 +143,17 @@ module _ (table m : List ℕ) (v : Visit) (node : Node) (roles : ℕ) where
     after-b = withBits after-a (fieldParts rb (node .b))
 
     pub b-still : Free after-a rb (node .b)
-    b-still = free-kept m ra (node .a) rb (node .b) (free-bit table m v rb (node .b) (t .b)) (t .a-b)
+    b-still = free-kept m ra (node .a) rb (node .b) (free-bit program m v rb (node .b) (t .b)) (t .a-b)
 
     pub c-still : Free after-b rc (node .c)
     c-still =
         free-kept after-a rb (node .b) rc (node .c)
-        (free-kept m ra (node .a) rc (node .c) (free-bit table m v rc (node .c) (t .c)) (t .a-c)) (t .b-c)
+        (free-kept m ra (node .a) rc (node .c) (free-bit program m v rc (node .c) (t .c)) (t .a-c)) (t .b-c)
 
     pub fresh : (best : ℕ) → repeatedCode m best (threeParts node roles) ≡ best
     fresh best =
         codes-append m best (fieldParts ra (node .a)) _
-        ∙ rw (field-fresh m best ra (node .a) (free-bit table m v ra (node .a) (t .a)))
+        ∙ rw (field-fresh m best ra (node .a) (free-bit program m v ra (node .a) (t .a)))
         (codes-append after-a best (fieldParts rb (node .b)) _
         ∙ rw (field-fresh after-a best rb (node .b) b-still) (field-fresh after-b best rc (node .c) c-still))
 
@@ -163,32 +163,32 @@ used-three m a b c first second third = third ∙ simp (second, first, bits-appe
 
 -- the fields of a node that fits: each part lies below the node, and the three fields are its parts
 
-module _ (table : List ℕ) (n : ℕ) (node : Node) (here : node ≡ nodeAt table n) (fits : nodeFits table n ≡ true) where
+module _ (program : Program) (n : ℕ) (node : Node) (here : node ≡ nodeAt program n) (fits : nodeFits program n ≡ true) where
   pub a-below : {role : ℕ} → role ≡ roleOf (node .kind) 100 → isPart role ≡ true → node .a < n
   a-below e part =
-      part-below table n (roleOf (node .kind) 100) (node .a) (rw here (fields-fit table n fits .0)) (rw e at part)
+      part-below program n (roleOf (node .kind) 100) (node .a) (rw here (fields-fit program n fits .0)) (rw e at part)
 
   pub b-below : {role : ℕ} → role ≡ roleOf (node .kind) 10 → isPart role ≡ true → node .b < n
   b-below e part =
-      part-below table n (roleOf (node .kind) 10) (node .b) (rw here (fields-fit table n fits .1)) (rw e at part)
+      part-below program n (roleOf (node .kind) 10) (node .b) (rw here (fields-fit program n fits .1)) (rw e at part)
 
   pub c-below : {role : ℕ} → role ≡ roleOf (node .kind) 1 → isPart role ≡ true → node .c < n
   c-below e part =
-      part-below table n (roleOf (node .kind) 1) (node .c) (rw here (fields-fit table n fits .2)) (rw e at part)
+      part-below program n (roleOf (node .kind) 1) (node .c) (rw here (fields-fit program n fits .2)) (rw e at part)
 
 -- what noting the nodes of a list answers and leaves
 abbrev Coded : List ℕ → ℕ → List ℕ → ℕ → List ℕ → Type 0
 Coded marks best list r after = (r ≡ repeatedCode marks best list) × (after ≡ withBits marks list)
 
-pub three-codes : (table : List ℕ) (n : ℕ) (m : Node) (marks m1 m2 m3 : List ℕ) (best r1 r2 r3 ra rb rc : ℕ)
-    → m ≡ nodeAt table n → ra ≡ roleOf (m .kind) 100 → rb ≡ roleOf (m .kind) 10 → rc ≡ roleOf (m .kind) 1
+pub three-codes : (program : Program) (n : ℕ) (m : Node) (marks m1 m2 m3 : List ℕ) (best r1 r2 r3 ra rb rc : ℕ)
+    → m ≡ nodeAt program n → ra ≡ roleOf (m .kind) 100 → rb ≡ roleOf (m .kind) 10 → rc ≡ roleOf (m .kind) 1
     → Coded marks best (fieldParts ra (m .a)) r1 m1
     → Coded m1 r1 (fieldParts rb (m .b)) r2 m2
     → Coded m2 r2 (fieldParts rc (m .c)) r3 m3
-    → Coded marks best (partsAt table n) r3 m3
-three-codes table n m marks m1 m2 m3 best r1 r2 r3 ra rb rc node a b c first second third =
-    let parts : partsAt table n ≡ fieldParts ra (m .a) ++ (fieldParts rb (m .b) ++ fieldParts rc (m .c)) =
-    simp (a, b, c, node) (parts-law table n) in (
+    → Coded marks best (partsAt program n) r3 m3
+three-codes program n m marks m1 m2 m3 best r1 r2 r3 ra rb rc node a b c first second third =
+    let parts : partsAt program n ≡ fieldParts ra (m .a) ++ (fieldParts rb (m .b) ++ fieldParts rc (m .c)) =
+    simp (a, b, c, node) (parts-law program n) in (
       third .0 ∙ simp (parts, codes-append, second .1, second .0, first .1, first .0),
       third .1 ∙ simp (parts, bits-append, second .1, first .1),
     )
@@ -234,7 +234,7 @@ procedure-below limit role value inside four = ltb-true value limit (rw four at 
 
 -- what `quick` promises of a node whose fields are free
 
-module _ (table : List ℕ) (v : Visit) (m : Node) (here : m ≡ nodeAt table (v .node)) (roles : ℕ)
+module _ (program : Program) (v : Visit) (m : Node) (here : m ≡ nodeAt program (v .node)) (roles : ℕ)
     (named : Named (m .kind) roles) where
   named-a : roleOf (m .kind) 100 ≡ digit roles 100
   named-a = role-named 100 named
@@ -245,41 +245,41 @@ module _ (table : List ℕ) (v : Visit) (m : Node) (here : m ≡ nodeAt table (v
   named-c : roleOf (m .kind) 1 ≡ digit roles 1
   named-c = role-named 1 named
 
-  pub known-is : kindKnown table (v .node) ≡ true
+  pub known-is : kindKnown program (v .node) ≡ true
   unfolding kindKnown isExpression isStatement
   known-is = simp (← here) (named .known)
 
-  pub zero-is : unnamedZero (nodeAt table (v .node))
+  pub zero-is : unnamedZero (nodeAt program (v .node))
       ≡ (fieldZero (digit roles 100) (m .a) && (fieldZero (digit roles 10) (m .b) && fieldZero (digit roles 1) (m .c)))
   zero-is = simp (← here) (zero-law m ∙ simp (named-a, named-b, named-c))
 
-  pub fits-is : nodeFits table (v .node)
-      ≡ (fieldFits table (v .node) (digit roles 100) (m .a)
-      && (fieldFits table (v .node) (digit roles 10) (m .b) && fieldFits table (v .node) (digit roles 1) (m .c)))
-  fits-is = fits-law table (v .node) ∙ simp (← here, named-a, named-b, named-c)
+  pub fits-is : nodeFits program (v .node)
+      ≡ (fieldFits program (v .node) (digit roles 100) (m .a)
+      && (fieldFits program (v .node) (digit roles 10) (m .b) && fieldFits program (v .node) (digit roles 1) (m .c)))
+  fits-is = fits-law program (v .node) ∙ simp (← here, named-a, named-b, named-c)
 
-  pub parts-are : partsAt table (v .node) ≡ threeParts m roles
-  parts-are = parts-law table (v .node) ∙ simp (← here, named-a, named-b, named-c)
+  pub parts-are : partsAt program (v .node) ≡ threeParts m roles
+  parts-are = parts-law program (v .node) ∙ simp (← here, named-a, named-b, named-c)
 
   module _ (before : List ℕ) where
-    pub quickly : {after : List ℕ} → Used table v m roles before after → Quick table (v .node) before after
+    pub quickly : {after : List ℕ} → Used program v m roles before after → Quick program (v .node) before after
     quickly u =
-        let t = three table before v m roles (u .free) in
+        let t = three program before v m roles (u .free) in
         record {
           known = known-is;
           zero = zero-is ∙ simp (free-zero _ _ _ _ _ (t .a), free-zero _ _ _ _ _ (t .b), free-zero _ _ _ _ _ (t .c));
           fits = fits-is ∙ simp (free-fits _ _ _ _ _ (t .a), free-fits _ _ _ _ _ (t .b), free-fits _ _ _ _ _ (t .c));
-          fresh = λ best. rw parts-are (fresh table before v m roles t best);
+          fresh = λ best. rw parts-are (fresh program before v m roles t best);
           used = u .used ∙ ap (withBits before) (sym parts-are);
         }
 
-    pub calls-below : fieldsFree table before v m roles ≡ true → CallsBelow table (v .node) (v .limit)
+    pub calls-below : fieldsFree program before v m roles ≡ true → CallsBelow program (v .node) (v .limit)
     unfolding statementAt
     calls-below free q s =
         let is : statementOf m ≡ call q = ap statementOf here ∙ s in
         elim (ℕ-discrete (m .kind) 21) [
           | yes e ↦
-              let t = three table before v m roles free in
+              let t = three program before v m roles free in
               let same : m .a ≡ q = cc (call-of m e) in
               let four = sym named-a ∙ call-role e in
               rw same at (procedure-below _ _ _ (free-inside _ _ _ _ _ (t .a)) four)

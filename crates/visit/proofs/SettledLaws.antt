@@ -10,7 +10,7 @@ use lib.ListN.{length}
 use borrow.Author.Tests.{leb-true, ltb-true, eqb-false, not-true, not-false}
 use borrow.Rule.Slice.PartMut.{putMid}
 use Rattle.rules.specs.declared.Node.{Node}
-use Rattle.rules.specs.Table.{variables, nodes, flagged, nodeAt, Statement}
+use Rattle.rules.specs.Table.{Program, decode, variables, nodes, flagged, nodeAt, Statement}
 use Rattle.rules.specs.WellFormed.{isExpression, isStatement, expressionPart, statementPart, nodeFits}
 use Rattle.rules.proofs.AnswerLaws.{both-left, both-right}
 use Rattle.rules.proofs.ChoiceLaws.{bool-cases}
@@ -31,19 +31,19 @@ use Rattle.visit.proofs.LeastLaws.{passed, failed}
 use Rattle.visit.proofs.PlaneLaws.{facts-length, used-put-facts, facts-put-facts, leaves-put-facts, length-put-facts}
 
 -- the answers of `settled`
-module _ (table : List ℕ) (v : Visit) (m : Node) (used : Bool) (source question guard : ℕ) (before : List ℕ)
+module _ (program : Program) (v : Visit) (m : Node) (used : Bool) (source question guard : ℕ) (before : List ℕ)
     (size : length before ≡ allPlanes) where
   abbrev found : Bool
-  found = sourced table (factsPlane before) m source
+  found = sourced program (factsPlane before) m source
 
-  pub settled-stuck : not used ≡ true → Settled table v m used source question guard before before 0
+  pub settled-stuck : not used ≡ true → Settled program v m used source question guard before before 0
   settled-stuck u =
       let e = not-true used u in
       record { answer = simp e; marks = refl; leaves = refl; facts = simp e; same = λ _. refl; size = size }
 
   -- t is what `fact_from` answered
   module _ {t : Bool} (u : not used ≡ false) (from : t ≡ found) where
-    pub settled-still : not t ≡ true → Settled table v m used source question guard before before none
+    pub settled-still : not t ≡ true → Settled program v m used source question guard before before none
     settled-still h =
         let e = not-false used u in
         let f = failed from h in
@@ -51,7 +51,7 @@ module _ (table : List ℕ) (v : Visit) (m : Node) (used : Bool) (source questio
 
     pub settled-marked : not t ≡ false → (words : List ℕ) (r : ℕ) → words ≡ withBit (factsPlane before) (v .node)
         → r ≡ ruled (bitAt (factsPlane before) (guard % 256)) question (v .node)
-        → Settled table v m used source question guard before (putMid 8 8 before words) r
+        → Settled program v m used source question guard before (putMid 8 8 before words) r
     settled-marked h words r made q =
         let e = not-false used u in
         let f = passed from h in
@@ -66,9 +66,9 @@ module _ (table : List ℕ) (v : Visit) (m : Node) (used : Bool) (source questio
         }
 
 -- a source gives the fact of node n, and a question with its guard the refusal by the node's rule
-pub record Judges (table : List ℕ) (reading : ℕ → Statement) (n : ℕ) (facts : List ℕ) (source question guard : ℕ) : Type 0 where
-  pub fact-is : sourced table facts (nodeAt table n) source ≡ fact table reading n
-  pub rule-is : cond (fact table reading n) (ruled (bitAt facts (guard % 256)) question n) none ≡ guardCode table reading n
+pub record Judges (program : Program) (reading : ℕ → Statement) (n : ℕ) (facts : List ℕ) (source question guard : ℕ) : Type 0 where
+  pub fact-is : sourced program facts (nodeAt program n) source ≡ fact program reading n
+  pub rule-is : cond (fact program reading n) (ruled (bitAt facts (guard % 256)) question n) none ≡ guardCode program reading n
 
 either-way : (b : Bool) (r : ℕ) → cond b r r ≡ r
 either-way true r = refl
@@ -78,46 +78,46 @@ either-way false r = refl
 asked : ℕ → Bool
 asked k = eqb k 17 || (eqb k 19 || (eqb k 20 || eqb k 24))
 
-module _ (table : List ℕ) (n : ℕ) (header : Header) (facts : List ℕ) (sized : Sized table header) (low : n < nodes table)
-    (fits : nodeFits table n ≡ true) (reading : Reading table n (n + 1)) (known : FactsTo table (reading .counts) n facts) where
+module _ (table : List ℕ) (n : ℕ) (header : Header) (facts : List ℕ) (sized : Sized table header) (low : n < nodes (decode table))
+    (fits : nodeFits (decode table) n ≡ true) (reading : Reading (decode table) n (n + 1)) (known : FactsTo (decode table) (reading .counts) n facts) where
   abbrev counts : ℕ → Statement
   counts = reading .counts
 
   abbrev kind : ℕ
-  kind = nodeAt table n .kind
+  kind = nodeAt (decode table) n .kind
 
   abbrev a : ℕ
-  a = nodeAt table n .a
+  a = nodeAt (decode table) n .a
 
   abbrev b : ℕ
-  b = nodeAt table n .b
+  b = nodeAt (decode table) n .b
 
   abbrev c : ℕ
-  c = nodeAt table n .c
+  c = nodeAt (decode table) n .c
 
   -- the fields by their roles
 
   abbrev Fits : ℕ → ℕ → Type 0
-  Fits role value = fieldFits table n role value ≡ true
+  Fits role value = fieldFits (decode table) n role value ≡ true
 
   a-fits : (k : ℕ) → kind ≡ k → Fits (roleOf k 100) a
-  a-fits k e = rw e at (fields-fit table n fits .0)
+  a-fits k e = rw e at (fields-fit (decode table) n fits .0)
 
   b-fits : (k : ℕ) → kind ≡ k → Fits (roleOf k 10) b
-  b-fits k e = rw e at (fields-fit table n fits .1)
+  b-fits k e = rw e at (fields-fit (decode table) n fits .1)
 
   c-fits : (k : ℕ) → kind ≡ k → Fits (roleOf k 1) c
-  c-fits k e = rw e at (fields-fit table n fits .2)
+  c-fits k e = rw e at (fields-fit (decode table) n fits .2)
 
   same-variable : (v : ℕ) → Fits 1 v → v % 32 ≡ v
   unfolding fieldFits
-  same-variable v f = omega (arith, ltb-true v (variables table) f, sized .variables-high)
+  same-variable v f = omega (arith, ltb-true v (variables (decode table)) f, sized .variables-high)
 
   -- a part is judged, and its bit is its fact
   record Part (sort : Bool) (v : ℕ) : Type 0 where
     below : v < n
     sorted : sort ≡ true
-    bit : bitAt facts (v % 256) ≡ fact table counts v
+    bit : bitAt facts (v % 256) ≡ fact (decode table) counts v
 
   part : (sort : Bool) (v : ℕ) → (ltb v n && sort) ≡ true → Part sort v
   part sort v f =
@@ -125,81 +125,81 @@ module _ (table : List ℕ) (n : ℕ) (header : Header) (facts : List ℕ) (size
       let same : v % 256 ≡ v = omega (arith, l, low, sized .nodes-high) in
       record { below = l; sorted = both-right (ltb v n) sort f; bit = rw same (known .known v l) }
 
-  expression : (v : ℕ) → Fits 2 v → Part (isExpression table v) v
+  expression : (v : ℕ) → Fits 2 v → Part (isExpression (decode table) v) v
   unfolding fieldFits expressionPart
-  expression v f = part (isExpression table v) v f
+  expression v f = part (isExpression (decode table) v) v f
 
-  statement : (v : ℕ) → Fits 3 v → Part (isStatement table v) v
+  statement : (v : ℕ) → Fits 3 v → Part (isStatement (decode table) v) v
   unfolding fieldFits statementPart
-  statement v f = part (isStatement table v) v f
+  statement v f = part (isStatement (decode table) v) v f
 
   -- a node with no rule, and one whose rule fails where it has an effect and its guard is not single
 
-  quiet : (k : ℕ) → kind ≡ k → asked k ≡ false → guardCode table counts n ≡ none
+  quiet : (k : ℕ) → kind ≡ k → asked k ≡ false → guardCode (decode table) counts n ≡ none
   unfolding asked
   quiet k e f =
       let other : (i : ℕ) → asked i ≡ true → kind ≡ i → ⊥ = λ i t h. never (sym t ∙ ap asked (sym h ∙ e) ∙ f) in
-      rule-none table n reading (other 17 refl) (other 19 refl) (other 20 refl) (other 24 refl)
+      rule-none (decode table) n reading (other 17 refl) (other 19 refl) (other 20 refl) (other 24 refl)
 
-  plain : (source guard : ℕ) → guardCode table counts n ≡ none → sourced table facts (nodeAt table n) source ≡ fact table counts n
-      → Judges table counts n facts source 0 guard
+  plain : (source guard : ℕ) → guardCode (decode table) counts n ≡ none → sourced (decode table) facts (nodeAt (decode table) n) source ≡ fact (decode table) counts n
+      → Judges (decode table) counts n facts source 0 guard
   unfolding ruled
-  plain source guard r f = record { fact-is = f; rule-is = rw r (either-way (fact table counts n) none) }
+  plain source guard r f = record { fact-is = f; rule-is = rw r (either-way (fact (decode table) counts n) none) }
 
   guarded : (source question guard : ℕ) {sort : Bool} → eqb question 0 ≡ false → Part sort guard
-      → sourced table facts (nodeAt table n) source ≡ fact table counts n
-      → guardCode table counts n ≡ cond (fact table counts n) (cond (fact table counts guard) (code question n) none) none
-      → Judges table counts n facts source question guard
+      → sourced (decode table) facts (nodeAt (decode table) n) source ≡ fact (decode table) counts n
+      → guardCode (decode table) counts n ≡ cond (fact (decode table) counts n) (cond (fact (decode table) counts guard) (code question n) none) none
+      → Judges (decode table) counts n facts source question guard
   unfolding ruled
   guarded source question guard q p f r = record { fact-is = f; rule-is = simp (q, p .bit, r) }
 
   -- by kind
 
-  pub judges-0 : kind ≡ 0 → Judges table counts n facts 0 0 a
+  pub judges-0 : kind ≡ 0 → Judges (decode table) counts n facts 0 0 a
   unfolding sourced asked once
-  judges-0 e = plain 0 a (quiet 0 e refl) (sym (fact-as table n reading 0 e))
+  judges-0 e = plain 0 a (quiet 0 e refl) (sym (fact-as (decode table) n reading 0 e))
 
-  pub judges-1 : kind ≡ 1 → Judges table counts n facts 2 0 a
+  pub judges-1 : kind ≡ 1 → Judges (decode table) counts n facts 2 0 a
   unfolding sourced asked roleOf roles
   judges-1 e =
-      plain 2 a (quiet 1 e refl) (ap (λ v. not (flagged table v)) (same-variable a (a-fits 1 e)) ∙ sym (fact-1 table n reading e))
+      plain 2 a (quiet 1 e refl) (ap (λ v. not (flagged (decode table) v)) (same-variable a (a-fits 1 e)) ∙ sym (fact-1 (decode table) n reading e))
 
-  pub judges-2 : (kind ≡ 2) ⊎ (kind ≡ 23) → Judges table counts n facts 1 0 a
+  pub judges-2 : (kind ≡ 2) ⊎ (kind ≡ 23) → Judges (decode table) counts n facts 1 0 a
   unfolding sourced asked once
   judges-2 =
-      ⊎-elim (λ (e : kind ≡ 2). plain 1 a (quiet 2 e refl) (sym (fact-as table n reading 2 e)))
-      (λ (e : kind ≡ 23). plain 1 a (quiet 23 e refl) (sym (fact-as table n reading 23 e)))
+      ⊎-elim (λ (e : kind ≡ 2). plain 1 a (quiet 2 e refl) (sym (fact-as (decode table) n reading 2 e)))
+      (λ (e : kind ≡ 23). plain 1 a (quiet 23 e refl) (sym (fact-as (decode table) n reading 23 e)))
 
-  pub judges-3 : (kind ≡ 3) ⊎ (kind ≡ 16) → Judges table counts n facts 0 0 a
+  pub judges-3 : (kind ≡ 3) ⊎ (kind ≡ 16) → Judges (decode table) counts n facts 0 0 a
   unfolding sourced asked once
   judges-3 =
-      ⊎-elim (λ (e : kind ≡ 3). plain 0 a (quiet 3 e refl) (sym (fact-as table n reading 3 e)))
-      (λ (e : kind ≡ 16). plain 0 a (quiet 16 e refl) (sym (fact-as table n reading 16 e)))
+      ⊎-elim (λ (e : kind ≡ 3). plain 0 a (quiet 3 e refl) (sym (fact-as (decode table) n reading 3 e)))
+      (λ (e : kind ≡ 16). plain 0 a (quiet 16 e refl) (sym (fact-as (decode table) n reading 16 e)))
 
-  pub judges-4 : kind ≡ 4 → Judges table counts n facts 1 0 a
+  pub judges-4 : kind ≡ 4 → Judges (decode table) counts n facts 1 0 a
   unfolding sourced asked once
-  judges-4 e = plain 1 a (quiet 4 e refl) (sym (fact-as table n reading 4 e))
+  judges-4 e = plain 1 a (quiet 4 e refl) (sym (fact-as (decode table) n reading 4 e))
 
-  pub judges-5 : kind ≡ 5 → Judges table counts n facts 5 0 a
+  pub judges-5 : kind ≡ 5 → Judges (decode table) counts n facts 5 0 a
   unfolding sourced asked roleOf roles
   judges-5 e =
       let p = expression a (a-fits 5 e) in
-      plain 5 a (quiet 5 e refl) (p .bit ∙ sym (fact-5 table n reading e (p .below) (p .sorted)))
+      plain 5 a (quiet 5 e refl) (p .bit ∙ sym (fact-5 (decode table) n reading e (p .below) (p .sorted)))
 
   operation : (k : ℕ) → kind ≡ k → (leb 6 k && leb k 12) ≡ true → roleOf k 100 ≡ 2 → roleOf k 10 ≡ 2
-      → Judges table counts n facts 7 0 a
+      → Judges (decode table) counts n facts 7 0 a
   unfolding sourced
   operation k e h x y =
       let from = leb-true 6 k (both-left (leb 6 k) (leb k 12) h) in
       let to = leb-true k 12 (both-right (leb 6 k) (leb k 12) h) in
       let p = expression a (rw x at (a-fits k e)) in
       let q = expression b (rw y at (b-fits k e)) in
-      let here = fact-operation table n reading (omega arith) (omega arith) (p .below) (q .below) (p .sorted) (q .sorted) in
-      plain 7 a (rule-none table n reading (omega arith) (omega arith) (omega arith) (omega arith)) (rw (p .bit, q .bit, here))
+      let here = fact-operation (decode table) n reading (omega arith) (omega arith) (p .below) (q .below) (p .sorted) (q .sorted) in
+      plain 7 a (rule-none (decode table) n reading (omega arith) (omega arith) (omega arith) (omega arith)) (rw (p .bit, q .bit, here))
 
   pub judges-6 : (kind ≡ 6)
       ⊎ ((kind ≡ 7) ⊎ ((kind ≡ 8) ⊎ ((kind ≡ 9) ⊎ ((kind ≡ 10) ⊎ ((kind ≡ 11) ⊎ (kind ≡ 12))))))
-      → Judges table counts n facts 7 0 a
+      → Judges (decode table) counts n facts 7 0 a
   unfolding roleOf roles
   judges-6 =
       ⊎-elim (λ (e : kind ≡ 6). operation 6 e refl refl refl)
@@ -209,59 +209,59 @@ module _ (table : List ℕ) (n : ℕ) (header : Header) (facts : List ℕ) (size
       (⊎-elim (λ (e : kind ≡ 10). operation 10 e refl refl refl)
       (⊎-elim (λ (e : kind ≡ 11). operation 11 e refl refl refl) (λ (e : kind ≡ 12). operation 12 e refl refl refl))))))
 
-  pub judges-17 : kind ≡ 17 → Judges table counts n facts 3 13 b
+  pub judges-17 : kind ≡ 17 → Judges (decode table) counts n facts 3 13 b
   unfolding sourced roleOf roles
   judges-17 e =
       let p = expression b (b-fits 17 e) in
-      guarded 3 13 b refl p (ap (flagged table) (same-variable a (a-fits 17 e)) ∙ sym (fact-17 table n reading e))
-      (rw (fact-17 table n reading e) (rule-17 table n reading e (p .sorted)))
+      guarded 3 13 b refl p (ap (flagged (decode table)) (same-variable a (a-fits 17 e)) ∙ sym (fact-17 (decode table) n reading e))
+      (rw (fact-17 (decode table) n reading e) (rule-17 (decode table) n reading e (p .sorted)))
 
-  pub judges-18 : kind ≡ 18 → Judges table counts n facts 7 0 a
+  pub judges-18 : kind ≡ 18 → Judges (decode table) counts n facts 7 0 a
   unfolding sourced asked roleOf roles
   judges-18 e =
       let p = statement a (a-fits 18 e) in
       let q = statement b (b-fits 18 e) in
       plain 7 a (quiet 18 e refl)
-      (rw (p .bit, q .bit, fact-18 table n reading e (p .below) (q .below) (p .sorted) (q .sorted)))
+      (rw (p .bit, q .bit, fact-18 (decode table) n reading e (p .below) (q .below) (p .sorted) (q .sorted)))
 
-  pub judges-19 : kind ≡ 19 → Judges table counts n facts 8 15 a
+  pub judges-19 : kind ≡ 19 → Judges (decode table) counts n facts 8 15 a
   unfolding sourced roleOf roles
   judges-19 e =
       let p = expression a (a-fits 19 e) in
       let q = statement b (b-fits 19 e) in
       let r = statement c (c-fits 19 e) in
-      let here = fact-19 table n reading e (q .below) (r .below) (q .sorted) (r .sorted) in
-      guarded 8 15 a refl p (rw (q .bit, r .bit, here)) (rw here (rule-19 table n reading e (p .sorted) (q .sorted) (r .sorted)))
+      let here = fact-19 (decode table) n reading e (q .below) (r .below) (q .sorted) (r .sorted) in
+      guarded 8 15 a refl p (rw (q .bit, r .bit, here)) (rw here (rule-19 (decode table) n reading e (p .sorted) (q .sorted) (r .sorted)))
 
-  pub judges-20 : kind ≡ 20 → Judges table counts n facts 6 16 a
+  pub judges-20 : kind ≡ 20 → Judges (decode table) counts n facts 6 16 a
   unfolding sourced roleOf roles
   judges-20 e =
       let p = expression a (a-fits 20 e) in
       let q = statement b (b-fits 20 e) in
-      let here = fact-20 table n reading e (q .below) (q .sorted) in
-      guarded 6 16 a refl p (rw (q .bit, here)) (rule-20 table n reading e (p .sorted))
+      let here = fact-20 (decode table) n reading e (q .below) (q .sorted) in
+      guarded 6 16 a refl p (rw (q .bit, here)) (rule-20 (decode table) n reading e (p .sorted))
 
-  pub judges-21 : kind ≡ 21 → Judges table counts n facts 4 0 a
+  pub judges-21 : kind ≡ 21 → Judges (decode table) counts n facts 4 0 a
   unfolding sourced asked once
-  judges-21 e = plain 4 a (quiet 21 e refl) (sym (fact-as table n reading 21 e))
+  judges-21 e = plain 4 a (quiet 21 e refl) (sym (fact-as (decode table) n reading 21 e))
 
-  pub judges-22 : kind ≡ 22 → Judges table counts n facts 0 0 a
+  pub judges-22 : kind ≡ 22 → Judges (decode table) counts n facts 0 0 a
   unfolding sourced asked once
-  judges-22 e = plain 0 a (quiet 22 e refl) (sym (fact-as table n reading 22 e))
+  judges-22 e = plain 0 a (quiet 22 e refl) (sym (fact-as (decode table) n reading 22 e))
 
-  pub judges-24 : kind ≡ 24 → Judges table counts n facts 1 14 c
+  pub judges-24 : kind ≡ 24 → Judges (decode table) counts n facts 1 14 c
   unfolding sourced roleOf roles
   judges-24 e =
       let p = expression c (c-fits 24 e) in
-      guarded 1 14 c refl p (sym (fact-24 table n reading e)) (rw (fact-24 table n reading e) (rule-24 table n reading e (p .sorted)))
+      guarded 1 14 c refl p (sym (fact-24 (decode table) n reading e)) (rw (fact-24 (decode table) n reading e) (rule-24 (decode table) n reading e (p .sorted)))
 
-  pub judges-25 : kind ≡ 25 → Judges table counts n facts 1 0 a
+  pub judges-25 : kind ≡ 25 → Judges (decode table) counts n facts 1 0 a
   unfolding sourced asked once
-  judges-25 e = plain 1 a (quiet 25 e refl) (sym (fact-as table n reading 25 e))
+  judges-25 e = plain 1 a (quiet 25 e refl) (sym (fact-as (decode table) n reading 25 e))
 
-  pub judges-26 : kind ≡ 26 → Judges table counts n facts 0 0 a
+  pub judges-26 : kind ≡ 26 → Judges (decode table) counts n facts 0 0 a
   unfolding sourced asked once
-  judges-26 e = plain 0 a (quiet 26 e refl) (sym (fact-as table n reading 26 e))
+  judges-26 e = plain 0 a (quiet 26 e refl) (sym (fact-as (decode table) n reading 26 e))
 
 -- what `settled` answers and keeps, in these terms
 
@@ -275,8 +275,8 @@ some-rule local question n =
     (bool-cases local))
     (bool-cases (eqb question 0))
 
-module _ (table : List ℕ) (v : Visit) (m : Node) (used : Bool) (source question guard : ℕ) (before after : List ℕ) (r : ℕ)
-    (s : Settled table v m used source question guard before after r) where
+module _ (program : Program) (v : Visit) (m : Node) (used : Bool) (source question guard : ℕ) (before after : List ℕ) (r : ℕ)
+    (s : Settled program v m used source question guard before after r) where
   pub settled-used : (r ≡ 0 → ⊥) → used ≡ true
   settled-used h =
       ⊎-elim (λ (e : used ≡ true). e) (λ (e : used ≡ false). absurd (h (s .answer ∙ simp e))) (bool-cases used)
@@ -286,20 +286,20 @@ module _ (table : List ℕ) (v : Visit) (m : Node) (used : Bool) (source questio
       ⊎-elim
       (λ (e : used ≡ true).
       ⊎-elim
-      (λ (f : sourced table (factsPlane before) m source ≡ true).
+      (λ (f : sourced program (factsPlane before) m source ≡ true).
       absurd (some-rule (bitAt (factsPlane before) (guard % 256)) question (v .node) (simp (e, f) at (sym (s .answer) ∙ h))))
-      (λ (f : sourced table (factsPlane before) m source ≡ false).
+      (λ (f : sourced program (factsPlane before) m source ≡ false).
       let z : none ≡ 0 = simp (e, f) at (sym (s .answer) ∙ h) in absurd (omega arith))
-      (bool-cases (sourced table (factsPlane before) m source)))
+      (bool-cases (sourced program (factsPlane before) m source)))
       (λ (e : used ≡ false). e)
       (bool-cases used)
 
-  pub settled-judged : m ≡ nodeAt table (v .node) → used ≡ true → v .node < 256
-      → (reading : ℕ → Statement) → FactsTo table reading (v .node) (factsPlane before)
-      → Judges table reading (v .node) (factsPlane before) source question guard
-      → FactsTo table reading (v .node + 1) (factsPlane after) × (r ≡ guardCode table reading (v .node))
+  pub settled-judged : m ≡ nodeAt program (v .node) → used ≡ true → v .node < 256
+      → (reading : ℕ → Statement) → FactsTo program reading (v .node) (factsPlane before)
+      → Judges program reading (v .node) (factsPlane before) source question guard
+      → FactsTo program reading (v .node + 1) (factsPlane after) × (r ≡ guardCode program reading (v .node))
   settled-judged here e l reading known judges =
-      let found : sourced table (factsPlane before) m source ≡ fact table reading (v .node) = rw here (judges .fact-is) in (
-        plane-more (fact table reading) (v .node) (factsPlane before) (factsPlane after) l known (s .facts ∙ simp (e, found)),
+      let found : sourced program (factsPlane before) m source ≡ fact program reading (v .node) = rw here (judges .fact-is) in (
+        plane-more (fact program reading) (v .node) (factsPlane before) (factsPlane after) l known (s .facts ∙ simp (e, found)),
         s .answer ∙ simp (e, found) (judges .rule-is),
       )

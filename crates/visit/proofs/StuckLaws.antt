@@ -10,7 +10,7 @@ use lib.Dec.{eqb}
 use lib.ListN.{length}
 use borrow.Author.Tests.{eqb-true, ne-eqb}
 use Rattle.rules.specs.declared.Node.{Node}
-use Rattle.rules.specs.Table.{procedures, nodeAt}
+use Rattle.rules.specs.Table.{Program, procedures, nodeAt}
 use Rattle.rules.specs.WellFormed.{kindKnown, unnamedZero, nodeFits, partsAt}
 use Rattle.rules.proofs.ChoiceLaws.{bool-cases}
 use Rattle.table.specs.Marks.{bitAt, withBit, withBits}
@@ -79,8 +79,8 @@ module _ (m : List ℕ) (size : length m ≡ 8) (r x s y : ℕ) (few : isPart r 
       (bool-cases (isPart r))
 
 -- a field that fits is free if what it names was not marked, where a call may name any procedure
-module _ (table marks : List ℕ) (v : Visit) (all : v .limit ≡ procedures table) (role value : ℕ)
-    (zero : fieldZero role value ≡ true) (fits : fieldFits table (v .node) role value ≡ true) where
+module _ (program : Program) (marks : List ℕ) (v : Visit) (all : v .limit ≡ procedures program) (role value : ℕ)
+    (zero : fieldZero role value ≡ true) (fits : fieldFits program (v .node) role value ≡ true) where
   unbound : within (v .limit) role value ≡ true
   unfolding within fieldFits
   unbound =
@@ -91,7 +91,7 @@ module _ (table marks : List ℕ) (v : Visit) (all : v .limit ≡ procedures tab
       (λ (e : eqb role 4 ≡ false). simp e)
       (bool-cases (eqb role 4))
 
-  free-field : Free marks role value → fieldFree table marks v role value ≡ true
+  free-field : Free marks role value → fieldFree program marks v role value ≡ true
   unfolding fieldFree
   free-field free =
       ⊎-elim
@@ -99,13 +99,13 @@ module _ (table marks : List ℕ) (v : Visit) (all : v .limit ≡ procedures tab
       (λ (e : isPart role ≡ false). simp (zero, fits, unbound, e))
       (bool-cases (isPart role))
 
-pub stuck-kind : (table : List ℕ) (v : Visit) (before : List ℕ) → v .node < 256 → kindKnown table (v .node) ≡ false
-    → (best : ℕ) → best ≤ none → nodeBest table (v .node) before best < none
+pub stuck-kind : (program : Program) (v : Visit) (before : List ℕ) → v .node < 256 → kindKnown program (v .node) ≡ false
+    → (best : ℕ) → best ≤ none → nodeBest program (v .node) before best < none
 unfolding nodeBest
-stuck-kind table v before few unknown best high = simp unknown (omega arith)
+stuck-kind program v before few unknown best high = simp unknown (omega arith)
 
-module _ (table : List ℕ) (v : Visit) (m : Node) (here : m ≡ nodeAt table (v .node)) (roles : ℕ) (named : Named (m .kind) roles)
-    (before : List ℕ) (size : length before ≡ 8) (few : v .node < 256) (all : v .limit ≡ procedures table)
+module _ (program : Program) (v : Visit) (m : Node) (here : m ≡ nodeAt program (v .node)) (roles : ℕ) (named : Named (m .kind) roles)
+    (before : List ℕ) (size : length before ≡ 8) (few : v .node < 256) (all : v .limit ≡ procedures program)
     (best : ℕ) (high : best ≤ none) where
   abbrev ra : ℕ
   ra = digit roles 100
@@ -117,8 +117,8 @@ module _ (table : List ℕ) (v : Visit) (m : Node) (here : m ≡ nodeAt table (v
   rc = digit roles 1
 
   -- where nothing of 7 to 9 fails, and nothing of 11
-  module _ (zero : unnamedZero (nodeAt table (v .node)) ≡ true) (fits : nodeFits table (v .node) ≡ true)
-      (passes : none ≤ repeatedCode before best (partsAt table (v .node))) where
+  module _ (zero : unnamedZero (nodeAt program (v .node)) ≡ true) (fits : nodeFits program (v .node) ≡ true)
+      (passes : none ≤ repeatedCode before best (partsAt program (v .node))) where
     abbrev after-a : List ℕ
     after-a = withBits before (fieldParts ra (m .a))
 
@@ -127,16 +127,16 @@ module _ (table : List ℕ) (v : Visit) (m : Node) (here : m ≡ nodeAt table (v
 
     -- the fields pass 8 and 9
     zeros : (fieldZero ra (m .a) ≡ true) × (fieldZero rb (m .b) ≡ true) × (fieldZero rc (m .c) ≡ true)
-    zeros = all-three _ _ _ (sym (zero-is table v m here roles named) ∙ zero)
+    zeros = all-three _ _ _ (sym (zero-is program v m here roles named) ∙ zero)
 
     abbrev Fits : ℕ → ℕ → Type 0
-    Fits role value = fieldFits table (v .node) role value ≡ true
+    Fits role value = fieldFits program (v .node) role value ≡ true
 
     fit : Fits ra (m .a) × Fits rb (m .b) × Fits rc (m .c)
-    fit = all-three _ _ _ (sym (fits-is table v m here roles named) ∙ fits)
+    fit = all-three _ _ _ (sym (fits-is program v m here roles named) ∙ fits)
 
-    part-few : (role value : ℕ) → fieldFits table (v .node) role value ≡ true → isPart role ≡ true → value < 256
-    part-few role value fit part = omega (arith, part-below table (v .node) role value fit part)
+    part-few : (role value : ℕ) → fieldFits program (v .node) role value ≡ true → isPart role ≡ true → value < 256
+    part-few role value fit part = omega (arith, part-below program (v .node) role value fit part)
 
     -- the codes after one, two and three fields
     abbrev code-a : ℕ
@@ -145,9 +145,9 @@ module _ (table : List ℕ) (v : Visit) (m : Node) (here : m ≡ nodeAt table (v
     abbrev code-b : ℕ
     code-b = repeatedCode after-a code-a (fieldParts rb (m .b))
 
-    code-is : repeatedCode before best (partsAt table (v .node)) ≡ repeatedCode after-b code-b (fieldParts rc (m .c))
+    code-is : repeatedCode before best (partsAt program (v .node)) ≡ repeatedCode after-b code-b (fieldParts rc (m .c))
     code-is =
-        ap (repeatedCode before best) (parts-are table v m here roles named)
+        ap (repeatedCode before best) (parts-are program v m here roles named)
         ∙ codes-append before best (fieldParts ra (m .a)) _
         ∙ codes-append after-a code-a (fieldParts rb (m .b)) (fieldParts rc (m .c))
 
@@ -175,37 +175,37 @@ module _ (table : List ℕ) (v : Visit) (m : Node) (here : m ≡ nodeAt table (v
     c-free-a : Free after-a rc (m .c)
     c-free-a = free-back after-a size-a rb (m .b) rc (m .c) (part-few rb (m .b) (fit .1)) c-free
 
-    all-free : fieldsFree table before v m roles ≡ true
+    all-free : fieldsFree program before v m roles ≡ true
     all-free =
         let few-a = part-few ra (m .a) (fit .0) in
-        three-free table before v m roles
+        three-free program before v m roles
         (record {
-          a = free-field table before v all ra (m .a) (zeros .0) (fit .0) a-free;
+          a = free-field program before v all ra (m .a) (zeros .0) (fit .0) a-free;
           b =
-              free-field table before v all rb (m .b) (zeros .1) (fit .1)
+              free-field program before v all rb (m .b) (zeros .1) (fit .1)
               (free-back before size ra (m .a) rb (m .b) few-a b-free);
           c =
-              free-field table before v all rc (m .c) (zeros .2) (fit .2)
+              free-field program before v all rc (m .c) (zeros .2) (fit .2)
               (free-back before size ra (m .a) rc (m .c) few-a c-free-a);
           a-b = distinct-back before size ra (m .a) rb (m .b) few-a b-free;
           a-c = distinct-back before size ra (m .a) rc (m .c) few-a c-free-a;
           b-c = distinct-back after-a size-a rb (m .b) rc (m .c) (part-few rb (m .b) (fit .1)) c-free;
         })
 
-  pub stuck-by : fieldsFree table before v m roles ≡ false → nodeBest table (v .node) before best < none
+  pub stuck-by : fieldsFree program before v m roles ≡ false → nodeBest program (v .node) before best < none
   unfolding nodeBest
   stuck-by stuck =
-      let known = known-is table v m here roles named in
+      let known = known-is program v m here roles named in
       ⊎-elim
-      (λ (zero : unnamedZero (nodeAt table (v .node)) ≡ true).
+      (λ (zero : unnamedZero (nodeAt program (v .node)) ≡ true).
       ⊎-elim
-      (λ (fits : nodeFits table (v .node) ≡ true).
+      (λ (fits : nodeFits program (v .node) ≡ true).
       simp (known, zero, fits)
-      (elim (decLt (repeatedCode before best (partsAt table (v .node))) none) [
+      (elim (decLt (repeatedCode before best (partsAt program (v .node))) none) [
         | yes below ↦ below
         | no above ↦ never (sym (all-free zero fits (omega arith)) ∙ stuck)
       ]))
-      (λ (fits : nodeFits table (v .node) ≡ false). simp (known, zero, fits) (omega arith))
-      (bool-cases (nodeFits table (v .node))))
-      (λ (zero : unnamedZero (nodeAt table (v .node)) ≡ false). simp (known, zero) (omega arith))
-      (bool-cases (unnamedZero (nodeAt table (v .node))))
+      (λ (fits : nodeFits program (v .node) ≡ false). simp (known, zero, fits) (omega arith))
+      (bool-cases (nodeFits program (v .node))))
+      (λ (zero : unnamedZero (nodeAt program (v .node)) ≡ false). simp (known, zero) (omega arith))
+      (bool-cases (unnamedZero (nodeAt program (v .node))))

@@ -2,7 +2,7 @@
 use mathlib.Core.Bool.{cond}
 use mathlib.Core.List.{List, [], _∷_}
 use Prim.Native.Nat.{ℕ, min}
-use Rattle.rules.specs.Table.{nodeAt}
+use Rattle.rules.specs.Table.{Program, nodeAt}
 use Rattle.rules.specs.WellFormed.{kindKnown, unnamedZero, nodeFits, partsAt}
 use Rattle.table.specs.Marks.{bitAt, withBit, withBits}
 use Rattle.visit.specs.Least.{code}
@@ -16,17 +16,17 @@ repeatedCode marks best [] = best
 repeatedCode marks best (n ∷ nodes) = repeatedCode (withBit marks n) (notedCode marks best n) nodes
 
 -- the least refusal and the marks once a node is swept: one that fails 7, 8 or 9 marks nothing
-module _ (table : List ℕ) (n : ℕ) where
+module _ (program : Program) (n : ℕ) where
   unfoldable pub nodeBest : List ℕ → ℕ → ℕ
   nodeBest marks best =
-      cond (kindKnown table n)
-      (cond (unnamedZero (nodeAt table n))
-      (cond (nodeFits table n) (repeatedCode marks best (partsAt table n)) (min best (code 9 n)))
+      cond (kindKnown program n)
+      (cond (unnamedZero (nodeAt program n))
+      (cond (nodeFits program n) (repeatedCode marks best (partsAt program n)) (min best (code 9 n)))
       (min best (code 8 n)))
       (min best (code 7 n))
 
   unfoldable pub nodeMarks : List ℕ → List ℕ
   nodeMarks marks =
-      cond (kindKnown table n)
-      (cond (unnamedZero (nodeAt table n)) (cond (nodeFits table n) (withBits marks (partsAt table n)) marks) marks)
+      cond (kindKnown program n)
+      (cond (unnamedZero (nodeAt program n)) (cond (nodeFits program n) (withBits marks (partsAt program n)) marks) marks)
       marks

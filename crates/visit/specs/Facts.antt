@@ -9,39 +9,39 @@ use lib.ListN.{length, getD}
 use Rattle.rules.specs.Acceptance.{ruleOf, bodyFlagged}
 use Rattle.rules.specs.Judgement.{single, effect}
 use Rattle.rules.specs.declared.Node.{Node}
-use Rattle.rules.specs.Table.{flagged, effectFlag, nodeAt, statementAt, Statement, nothing}
+use Rattle.rules.specs.Table.{Program, flagged, effectFlag, nodeAt, statementAt, Statement, nothing}
 use Rattle.table.specs.Marks.{bitAt, withBit}
 use Rattle.visit.specs.declared.Visit.{Visit}
 use Rattle.visit.specs.Fields.{usedPlane, factsPlane, leavesPlane, allPlanes, planeWords}
 use Rattle.visit.specs.Least.{none, code, failure}
 
 -- a reading by which every node counts as what it is or as nothing, and those from n up to `end` as what they are
-pub record Reading (table : List ℕ) (n end : ℕ) : Type 0 where
+pub record Reading (program : Program) (n end : ℕ) : Type 0 where
   pub counts : ℕ → Statement
-  pub each : (k : ℕ) → (counts k ≡ statementAt table k) ⊎ (counts k ≡ nothing)
-  pub here : (k : ℕ) → n ≤ k → k < end → counts k ≡ statementAt table k
+  pub each : (k : ℕ) → (counts k ≡ statementAt program k) ⊎ (counts k ≡ nothing)
+  pub here : (k : ℕ) → n ≤ k → k < end → counts k ≡ statementAt program k
 
 -- by a reading
-module _ (table : List ℕ) (reading : ℕ → Statement) where
+module _ (program : Program) (reading : ℕ → Statement) where
   -- what is kept of a node for questions 13 to 17: an expression that is not single, or a statement with a global effect. A
   -- statement reads as a constant expression, which is single, and an expression as the statement nothing, which has no effect.
   unfoldable pub fact : ℕ → Bool
-  fact n = not (single table n) || effect table reading n
+  fact n = not (single program n) || effect program reading n
 
   -- the least refusal of 13 to 16 at node n
   unfoldable pub ruleCode : ℕ → ℕ
-  ruleCode n = failure (ruleOf table reading (reading n) .question) n (ruleOf table reading (reading n) .holds)
+  ruleCode n = failure (ruleOf program reading (reading n) .question) n (ruleOf program reading (reading n) .holds)
 
   -- the same where it is not looked at whether a while is left locally: a while that counts has its body's effect
   unfoldable pub guardCode : ℕ → ℕ
   guardCode n =
-      cond (eqb (nodeAt table n .kind) 20)
-      (failure 16 n (single table (nodeAt table n .a) || not (effect table reading n)))
+      cond (eqb (nodeAt program n .kind) 20)
+      (failure 16 n (single program (nodeAt program n .a) || not (effect program reading n)))
       (ruleCode n)
 
   -- and of 17 at procedure p
   unfoldable pub flagCode : ℕ → ℕ
-  flagCode p = failure 17 p (bodyFlagged table reading p)
+  flagCode p = failure 17 p (bodyFlagged program reading p)
 
 -- the plane of a test once it is known of the nodes below n: one bit for each, and none from there on
 pub record PlaneTo (test : ℕ → Bool) (n : ℕ) (plane : List ℕ) : Type 0 where
@@ -50,15 +50,15 @@ pub record PlaneTo (test : ℕ → Bool) (n : ℕ) (plane : List ℕ) : Type 0 w
   pub clear : (k : ℕ) → n ≤ k → k < 256 → bitAt plane k ≡ false
 
 -- of facts, and of leaves
-abbrev pub FactsTo : List ℕ → (ℕ → Statement) → ℕ → List ℕ → Type 0
-FactsTo table reading = PlaneTo (fact table reading)
+abbrev pub FactsTo : Program → (ℕ → Statement) → ℕ → List ℕ → Type 0
+FactsTo program reading = PlaneTo (fact program reading)
 
-abbrev pub NotedTo : List ℕ → ℕ → List ℕ → Type 0
-NotedTo table = PlaneTo (λ n. eqb (nodeAt table n .kind) 26)
+abbrev pub NotedTo : Program → ℕ → List ℕ → Type 0
+NotedTo program = PlaneTo (λ n. eqb (nodeAt program n .kind) 26)
 
 -- where a node's fact comes from: nowhere, from the kind alone, from a variable's flag, from a procedure's, from parts. A field
 -- is read as a variable below 32 or as a node below 256, which it is where the node fits.
-module _ (table facts : List ℕ) (m : Node) where
+module _ (program : Program) (facts : List ℕ) (m : Node) where
   abbrev bit : ℕ → Bool
   bit n = bitAt facts (n % 256)
 
@@ -67,9 +67,9 @@ module _ (table facts : List ℕ) (m : Node) where
       getD
       (false
       ∷ true
-      ∷ not (flagged table (m .a % 32))
-      ∷ flagged table (m .a % 32)
-      ∷ effectFlag table (m .a)
+      ∷ not (flagged program (m .a % 32))
+      ∷ flagged program (m .a % 32)
+      ∷ effectFlag program (m .a)
       ∷ bit (m .a)
       ∷ bit (m .b)
       ∷ (bit (m .a) || bit (m .b))
@@ -82,16 +82,16 @@ unfoldable pub ruled : Bool → ℕ → ℕ → ℕ
 ruled local question n = cond (eqb question 0) none (cond local (code question n) none)
 
 -- what is kept and answered of a node: nothing where its fields did not pass
-pub record Settled (table : List ℕ) (v : Visit) (m : Node) (used : Bool) (source question guard : ℕ) (before after : List ℕ)
+pub record Settled (program : Program) (v : Visit) (m : Node) (used : Bool) (source question guard : ℕ) (before after : List ℕ)
     (r : ℕ) : Type 0 where
   pub answer : r
       ≡ cond used
-      (cond (sourced table (factsPlane before) m source)
+      (cond (sourced program (factsPlane before) m source)
       (ruled (bitAt (factsPlane before) (guard % 256)) question (v .node)) none)
       0
   pub marks : usedPlane after ≡ usedPlane before
   pub facts : factsPlane after
-      ≡ cond (used && sourced table (factsPlane before) m source) (withBit (factsPlane before) (v .node))
+      ≡ cond (used && sourced program (factsPlane before) m source) (withBit (factsPlane before) (v .node))
       (factsPlane before)
   pub leaves : leavesPlane after ≡ leavesPlane before
   pub same : used ≡ false → after ≡ before

@@ -4,7 +4,7 @@ ghost use mathlib.Core.List.{[], _∷_};
 ghost use mathlib.Core.Path.{_≡_};
 ghost use Prim.Native.Nat.{_*_, _<_};
 ghost use lib.ListN.{length};
-ghost use Rattle.rules.specs.Table.{nodeAt};
+ghost use Rattle.rules.specs.Table.{decode, nodeAt};
 ghost use Rattle.rules.specs.WellFormed.{nodeFits, partsAt};
 ghost use Rattle.visit.specs.Exact.{notedCode, repeatedCode, nodeBest, nodeMarks};
 ghost use Rattle.table.specs.Marks.{withBit, withBits};
@@ -49,9 +49,9 @@ fn note_field(marks: &mut [u32], best: usize, role: u16, value: usize) -> usize
 }
 
 fn note_parts(table: &[u8], header: Header, marks: &mut [u32], best: usize, n: usize) -> usize
-    requires { ⌜ Sized (now table) header × (n < header .nodes) × (length (now marks) ≡ planeWords) × (nodeFits (now table) n ≡ true) ⌝ }
-    ensures { λ r. ⌜ (r ≡ repeatedCode (now (marks .entry)) best (partsAt (now (table .entry)) n))
-        × (now (marks .exit) ≡ withBits (now (marks .entry)) (partsAt (now (table .entry)) n)) ⌝ }
+    requires { ⌜ Sized (now table) header × (n < header .nodes) × (length (now marks) ≡ planeWords) × (nodeFits (decode (now table)) n ≡ true) ⌝ }
+    ensures { λ r. ⌜ (r ≡ repeatedCode (now (marks .entry)) best (partsAt (decode (now (table .entry))) n))
+        × (now (marks .exit) ≡ withBits (now (marks .entry)) (partsAt (decode (now (table .entry))) n)) ⌝ }
 {
     let node = node_at(table, header, n);
     let after_a = note_field(marks, best, role(node.kind, A), node.a as usize);
@@ -61,8 +61,8 @@ fn note_parts(table: &[u8], header: Header, marks: &mut [u32], best: usize, n: u
 
 pub fn exact(table: &[u8], header: Header, marks: &mut [u32], best: usize, n: usize) -> usize
     requires { ⌜ Sized (now table) header × (n < header .nodes) × (length (now marks) ≡ planeWords) ⌝ }
-    ensures { λ r. ⌜ (r ≡ nodeBest (now (table .entry)) n (now (marks .entry)) best)
-        × (now (marks .exit) ≡ nodeMarks (now (table .entry)) n (now (marks .entry))) ⌝ }
+    ensures { λ r. ⌜ (r ≡ nodeBest (decode (now (table .entry))) n (now (marks .entry)) best)
+        × (now (marks .exit) ≡ nodeMarks (decode (now (table .entry))) n (now (marks .entry))) ⌝ }
 {
     if !kind_known(table, header, n) {
         return worse(best, 7, n);

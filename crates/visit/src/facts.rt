@@ -8,6 +8,7 @@ ghost use Rattle.table.specs.Marks.{bitAt};
 ghost use Rattle.table.specs.Sized.{Sized};
 ghost use Rattle.visit.specs.Facts.{sourced, Settled, ruled};
 ghost use Rattle.visit.specs.Fields.{factsPlane, allPlanes};
+ghost use Rattle.rules.specs.Table.{decode};
 use crate::LEAVES;
 use crate::PLANE;
 use crate::STUCK;
@@ -61,7 +62,7 @@ fn either(planes: &[u32], a: u32, b: u32) -> bool
 
 fn fact_from(table: &[u8], planes: &[u32], visit: Visit, node: Node, source: u16) -> bool
     requires { ⌜ Sized (now table) (visit .header) × (length (now planes) ≡ allPlanes) × (source ≡ 4 → node .a < visit .header .procedures) ⌝ }
-    ensures { λ r. ⌜ r ≡ sourced (now (table .entry)) (factsPlane (now (planes .entry))) node source ⌝ }
+    ensures { λ r. ⌜ r ≡ sourced (decode (now (table .entry))) (factsPlane (now (planes .entry))) node source ⌝ }
 {
     match source {
         0 => false,
@@ -89,7 +90,7 @@ pub fn settled(
 ) -> usize
     requires { ⌜ Sized (now table) (visit .header) × (visit .node < visit .header .nodes) × (length (now planes) ≡ allPlanes) ⌝ }
     requires { ⌜ (question < 17) × (used ≡ true → source ≡ 4 → node .a < visit .header .procedures) ⌝ }
-    ensures { λ r. ⌜ Settled (now (table .entry)) visit node used source question guard (now (planes .entry)) (now (planes .exit)) r ⌝ }
+    ensures { λ r. ⌜ Settled (decode (now (table .entry))) visit node used source question guard (now (planes .entry)) (now (planes .exit)) r ⌝ }
 {
     if !used {
         return STUCK;

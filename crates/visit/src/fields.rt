@@ -7,6 +7,7 @@ ghost use Rattle.table.specs.Marks.{withBits};
 ghost use Rattle.table.specs.Roles.{digit, isPart, fieldParts};
 ghost use Rattle.table.specs.Sized.{Sized};
 ghost use Rattle.visit.specs.Fields.{within, fieldFree, distinct, fieldsFree, Used, Fields, allPlanes, planeWords};
+ghost use Rattle.rules.specs.Table.{decode};
 use crate::PLANE;
 use crate::Visit;
 use rules::Node;
@@ -32,7 +33,7 @@ fn within(visit: Visit, role: u16, value: usize) -> bool
 
 fn field_free(table: &[u8], marks: &[u32], visit: Visit, role: u16, value: u32) -> bool
     requires { ⌜ Sized (now table) (visit .header) × (visit .node < visit .header .nodes) × (length (now marks) ≡ planeWords) ⌝ }
-    ensures { λ r. ⌜ r ≡ fieldFree (now (table .entry)) (now (marks .entry)) visit role value ⌝ }
+    ensures { λ r. ⌜ r ≡ fieldFree (decode (now (table .entry))) (now (marks .entry)) visit role value ⌝ }
 {
     if !field_zero(role, value) {
         return false;
@@ -63,7 +64,7 @@ fn distinct(r: u16, x: u32, s: u16, y: u32) -> bool
 
 fn fields_free(table: &[u8], marks: &[u32], visit: Visit, node: Node, roles: u16) -> bool
     requires { ⌜ Sized (now table) (visit .header) × (visit .node < visit .header .nodes) × (length (now marks) ≡ planeWords) ⌝ }
-    ensures { λ r. ⌜ r ≡ fieldsFree (now (table .entry)) (now (marks .entry)) visit node roles ⌝ }
+    ensures { λ r. ⌜ r ≡ fieldsFree (decode (now (table .entry))) (now (marks .entry)) visit node roles ⌝ }
 {
     if !field_free(table, marks, visit, digit(roles, A), node.a) {
         return false;
@@ -94,8 +95,8 @@ fn take(marks: &mut [u32], role: u16, value: usize)
 
 fn take_fields(table: &[u8], marks: &mut [u32], visit: Visit, node: Node, roles: u16) -> bool
     requires { ⌜ Sized (now table) (visit .header) × (visit .node < visit .header .nodes) × (length (now marks) ≡ planeWords) ⌝ }
-    ensures { λ r. ⌜ r ≡ fieldsFree (now (table .entry)) (now (marks .entry)) visit node roles ⌝ }
-    ensures { λ r. ⌜ (r ≡ true → Used (now (table .entry)) visit node roles (now (marks .entry)) (now (marks .exit))) ⌝ }
+    ensures { λ r. ⌜ r ≡ fieldsFree (decode (now (table .entry))) (now (marks .entry)) visit node roles ⌝ }
+    ensures { λ r. ⌜ (r ≡ true → Used (decode (now (table .entry))) visit node roles (now (marks .entry)) (now (marks .exit))) ⌝ }
     ensures { λ r. ⌜ (r ≡ false → now (marks .exit) ≡ now (marks .entry)) ⌝ }
 {
     if !fields_free(table, marks, visit, node, roles) {
@@ -110,7 +111,7 @@ fn take_fields(table: &[u8], marks: &mut [u32], visit: Visit, node: Node, roles:
 // The plane of the nodes used is the first of the planes.
 pub fn fields(table: &[u8], planes: &mut [u32], visit: Visit, node: Node, roles: u16) -> bool
     requires { ⌜ Sized (now table) (visit .header) × (visit .node < visit .header .nodes) × (length (now planes) ≡ allPlanes) ⌝ }
-    ensures { λ r. ⌜ Fields (now (table .entry)) visit node roles (now (planes .entry)) (now (planes .exit)) r ⌝ }
+    ensures { λ r. ⌜ Fields (decode (now (table .entry))) visit node roles (now (planes .entry)) (now (planes .exit)) r ⌝ }
 {
     take_fields(table, &mut planes[0..PLANE], visit, node, roles)
 }

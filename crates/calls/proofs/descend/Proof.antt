@@ -6,6 +6,7 @@ use Rattle.table.specs.Marks.{withBits}
 use borrow.Author.Needs.{needs}
 use Rattle.calls.proofs.descend.Statement.{statement}
 use Rattle.calls.proofs.descend.Tie as tie
+use Rattle.rules.specs.Table.{decode}
 
 node-at-requires : tie.Need-node-at-requires
 node-at-requires c κs = search needs
@@ -75,7 +76,7 @@ returns-3 c =
     (c .before .before .before .before .before .before .match .keys3) in
     rw (
       waits-loop _ _ _ (c .before .before .before .before .before .before .before .node-at .ensures) (c .before .before .before .before .before .before .match .keys3),
-      ← twice-waits (start .args .table .now) (start .args .marks .now) (c .before .before .before .before .before .before .before .node-at .result .b)
+      ← twice-waits (decode (start .args .table .now)) (start .args .marks .now) (c .before .before .before .before .before .before .before .node-at .result .b)
           (omega (arith, low, given .0 .sized .nodes-high, given .0 .sized .nodes-read, given .1, given .2)),
     )
     (c .before .before .on-to-either3 .ensures)

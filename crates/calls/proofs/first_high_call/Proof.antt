@@ -1,7 +1,7 @@
 -- `first_high_call` meets its contract. The loop's invariant: the node before `next` was taken, and what waits and the lowest
 -- call are as the walk leaves them.
 use Rattle.calls.proofs.WalkLaws.{Going, going-start, going-clear, going-next, going-end, topped-length}
-use Rattle.rules.specs.Table.{nodes, body}
+use Rattle.rules.specs.Table.{decode, nodes, body}
 use lib.ListN.{length}
 use native.Mathlib.Omega.{arith}
 use Prim.Native.Nat.{_≤_, _<_, _-_}
@@ -10,13 +10,13 @@ use Rattle.calls.proofs.first_high_call.Statement.{statement}
 use Rattle.calls.proofs.first_high_call.Tie as tie
 
 abbrev Inv-loop : tie.InvT-loop
-Inv-loop table header marks₀ p lowest₀ next₀ marks lowest next = Going table p next marks lowest
+Inv-loop table header marks₀ p lowest₀ next₀ marks lowest next = Going (decode table) p next marks lowest
 
 abbrev μ-loop : tie.MeasureT-loop
 μ-loop table header marks₀ p lowest₀ next₀ marks lowest next = next
 
 -- the body is a node
-rooted : (c : tie.Start Inv-loop μ-loop) → body (c .args .table .now) (c .args .p) < nodes (c .args .table .now)
+rooted : (c : tie.Start Inv-loop μ-loop) → body (decode (c .args .table .now)) (c .args .p) < nodes (decode (c .args .table .now))
 rooted c =
     let given = c .pre in
     given .0 .bodies (c .args .p) (omega (arith, given .0 .sized .procedures-read, given .1))
@@ -64,7 +64,7 @@ abbrev turn : tie.After-slice-known2 Inv-loop μ-loop → tie.In-loop Inv-loop �
 turn c = c .before .before .before .before .before
 
 step : (c : tie.After-slice-known2 Inv-loop μ-loop)
-    → Going (start (turn c) .args .table .now) (start (turn c) .args .p) (c .before .before .descend .result)
+    → Going (decode (start (turn c) .args .table .now)) (start (turn c) .args .p) (c .before .before .descend .result)
     (c .before .before .descend .last .1 .1 .0) (c .before .before .before .before .lowest-call .result)
     × (c .before .before .descend .result ≤ turn c .before .loop .next - 1)
 step c =

@@ -1,6 +1,6 @@
 -- `first_miscalled` meets its contract. The loop's invariant: the lowest call that fails for the procedures passed.
 use Rattle.calls.proofs.CallLaws.{callsOf, calls-none, calls-more, calls-all}
-use Rattle.rules.specs.Table.{nodes, procedures}
+use Rattle.rules.specs.Table.{decode, nodes, procedures}
 use Rattle.rules.specs.Choice.{firstFailing}
 use lib.ListN.{length, replicate}
 use native.Mathlib.Omega.{arith}
@@ -12,7 +12,7 @@ use Rattle.calls.proofs.first_miscalled.Tie as tie
 
 abbrev Inv-loop : tie.InvT-loop
 Inv-loop table header marks₀ count lowest₀ p₀ marks lowest p =
-    (p ≤ count) × (marks ≡ replicate 8 0) × (lowest ≡ firstFailing (callsOf table p) (nodes table))
+    (p ≤ count) × (marks ≡ replicate 8 0) × (lowest ≡ firstFailing (callsOf (decode table) p) (nodes (decode table)))
 
 abbrev μ-loop : tie.MeasureT-loop
 μ-loop table header marks₀ count lowest₀ p₀ marks lowest p = count - p
@@ -20,7 +20,7 @@ abbrev μ-loop : tie.MeasureT-loop
 loop-holds : tie.Need-loop-holds Inv-loop μ-loop
 loop-holds c =
     let t = c .before .before .args .table .now in
-    (omega arith, c .before .before .pre .1, c .before .before .pre .0 .sized .nodes-read ∙ sym (calls-none t))
+    (omega arith, c .before .before .pre .1, c .before .before .pre .0 .sized .nodes-read ∙ sym (calls-none (decode t)))
 
 first-high-call-requires : tie.Need-first-high-call-requires Inv-loop μ-loop
 first-high-call-requires c κs =
@@ -43,7 +43,7 @@ loop-again c =
     let t = past .before .before .before .args .table .now in (
       omega arith,
       first-high-call .ensures .1,
-      c .smaller .ensures ∙ simp (loop .inv .2, first-high-call .ensures .0) (sym (calls-more t (loop .p))),
+      c .smaller .ensures ∙ simp (loop .inv .2, first-high-call .ensures .0) (sym (calls-more (decode t) (loop .p))),
     )
 
 same-length : tie.Need-same-length Inv-loop μ-loop
@@ -52,11 +52,11 @@ same-length c = ap length (c .before .loop .inv .1) ∙ sym (ap length (c .befor
 returns : tie.Need-returns Inv-loop μ-loop
 returns c =
     let t = c .before .before .before .before .args .table .now in
-    let all : c .before .loop .p ≡ procedures t =
+    let all : c .before .loop .p ≡ procedures (decode t) =
     omega (arith, c .before .before .before .before .pre .0 .sized .procedures-read) in
-    let low : c .before .loop .lowest ≡ firstFailing (callsOf t (procedures t)) (nodes t) =
+    let low : c .before .loop .lowest ≡ firstFailing (callsOf (decode t) (procedures (decode t))) (nodes (decode t)) =
     rw all at (c .before .loop .inv .2) in
-    (low ∙ calls-all t, c .before .loop .inv .1)
+    (low ∙ calls-all (decode t), c .before .loop .inv .1)
 
 pub first-miscalled-spec : {M : Type 1} → statement M
 first-miscalled-spec =

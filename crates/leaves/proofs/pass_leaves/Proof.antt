@@ -7,6 +7,7 @@ use Rattle.visit.proofs.FactLaws.{whole}
 use borrow.Author.Needs.{needs}
 use Rattle.leaves.proofs.pass_leaves.Statement.{statement}
 use Rattle.leaves.proofs.pass_leaves.Tie as tie
+use Rattle.rules.specs.Table.{decode}
 
 sub-none-marked : tie.Need-sub-none-marked
 sub-none-marked c = search needs
@@ -53,7 +54,7 @@ returns-2 c =
     let clear = c .before .before .before .before .before .before .clear-leaves .ensures in
     passed-cleared (start .args .planes .now) clear
     (passed-all _ _ _ _
-    (c .before .before .pass-nodes .ensures .passed (whole (start .args .table .now) _ _) _ _
+    (c .before .before .pass-nodes .ensures .passed (whole (decode (start .args .table .now)) _ _) _ _
     (passed-none _ _ _ _ (given .0 .1) (clear .size) (clear .left) (clear .held)))
     (header-nodes (given .0 .0)))
 

@@ -6,10 +6,11 @@ use Rattle.leaves.specs.Leaves.{NodesPassed}
 use Rattle.leaves.proofs.PassLaws.{stretch-none, stretch-more}
 use Rattle.leaves.proofs.pass_nodes.Statement.{statement}
 use Rattle.leaves.proofs.pass_nodes.Tie as tie
+use Rattle.rules.specs.Table.{decode}
 
 abbrev Inv-loop : tie.InvT-loop
 Inv-loop table header planes₀ start first end least₀ n₀ planes least n =
-    (first ≤ n) × (n ≤ end) × NodesPassed table first n start planes₀ planes least
+    (first ≤ n) × (n ≤ end) × NodesPassed (decode table) first n start planes₀ planes least
 
 abbrev μ-loop : tie.MeasureT-loop
 μ-loop table header planes₀ start first end least₀ n₀ planes least n = end - n

@@ -2,7 +2,7 @@
 use Rattle.loops.proofs.BuiltLaws.{readable, header-nodes}
 use Rattle.rules.proofs.ChoiceLaws.{Passed, passed-none, passed-more, all-true, all-false}
 use Rattle.rules.proofs.KindLaws.{leave-of, no-leave}
-use Rattle.rules.specs.Table.{nodes, nodeAt, statementAt, isLeave}
+use Rattle.rules.specs.Table.{decode, nodes, nodeAt, statementAt, isLeave}
 use native.Mathlib.Omega.{arith}
 use Prim.Native.Nat.{ℕ, _-_, _≤_}
 use mathlib.Core.Bool.{Bool, true, false, not}
@@ -12,7 +12,7 @@ use Rattle.loops.proofs.has_leave.Statement.{statement}
 use Rattle.loops.proofs.has_leave.Tie as tie
 
 abbrev stays : List ℕ → ℕ → Bool
-stays table n = not (isLeave (statementAt table n))
+stays table n = not (isLeave (statementAt (decode table) n))
 
 abbrev Inv-loop : tie.InvT-loop
 Inv-loop table header all n₀ n = (n ≤ all) × Passed (stays table) n
@@ -35,8 +35,8 @@ returns c =
     let n = c .before .before .before .loop .n in
     let count = header-nodes (c .before .before .before .before .before .pre) in
     let found : stays (args .table .now) n ≡ false =
-    rw (leave-of (nodeAt (args .table .now) n) (sym (c .before .kind-at .ensures) ∙ c .if1 .taken)) in
-    rw (all-false (stays (args .table .now)) (nodes (args .table .now)) n
+    rw (leave-of (nodeAt (decode (args .table .now)) n) (sym (c .before .kind-at .ensures) ∙ c .if1 .taken)) in
+    rw (all-false (stays (args .table .now)) (nodes (decode (args .table .now))) n
     (omega (arith, c .before .before .loop-test .taken, count)) found)
 
 add-n : tie.Need-add-n Inv-loop μ-loop
@@ -51,15 +51,15 @@ loop-again c =
     let table = c .before .before .before .before .before .args .table .now in
     let n = c .before .before .before .loop .n in
     let passes : stays table n ≡ true =
-    rw (no-leave (nodeAt table n) (λ e. c .if1 .left (c .before .kind-at .ensures ∙ e))) in
+    rw (no-leave (nodeAt (decode table) n) (λ e. c .if1 .left (c .before .kind-at .ensures ∙ e))) in
     (omega (arith, c .before .before .loop-test .taken), passed-more (stays table) n (c .before .before .before .loop .inv .1) passes)
 
 returns-2 : tie.Need-returns-2 Inv-loop μ-loop
 returns-2 c =
     let table = c .before .before .before .args .table .now in
-    let end : c .before .loop .n ≡ nodes table =
+    let end : c .before .loop .n ≡ nodes (decode table) =
     omega (arith, c .loop-test .left, c .before .loop .inv .0, header-nodes (c .before .before .before .pre)) in
-    rw (all-true (stays table) (nodes table) (rw end at (c .before .loop .inv .1)))
+    rw (all-true (stays table) (nodes (decode table)) (rw end at (c .before .loop .inv .1)))
 
 pub has-leave-spec : {M : Type 1} → statement M
 has-leave-spec =

@@ -7,9 +7,10 @@ use Prim.Native.Nat.{_-_}
 use mathlib.Core.Path.{sym, _∙_}
 use Rattle.loops.proofs.nearest_loop.Statement.{statement}
 use Rattle.loops.proofs.nearest_loop.Tie as tie
+use Rattle.rules.specs.Table.{decode}
 
 abbrev Inv-loop : tie.InvT-loop
-Inv-loop table header n count inner₀ m₀ inner m = Climbed table n inner m
+Inv-loop table header n count inner₀ m₀ inner m = Climbed (decode table) n inner m
 
 abbrev μ-loop : tie.MeasureT-loop
 μ-loop table header n count inner₀ m₀ inner m = count - m

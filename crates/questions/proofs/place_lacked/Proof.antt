@@ -3,7 +3,7 @@ use Rattle.questions.proofs.FittingLaws.{run-stacked, run-statement, ru
 use Rattle.process.proofs.StatementLaws.{statement-below}
 use Rattle.process.proofs.ReadLaws.{readable, read-formed}
 use Rattle.rules.proofs.ProcessLaws.{process-length}
-use Rattle.rules.specs.Table.{nodeAt}
+use Rattle.rules.specs.Table.{decode, nodeAt}
 use Rattle.rules.specs.Step.{placeLacked}
 use Rattle.rules.specs.Process.{top, depth}
 use borrow.Author.Tests.{eq-eqb, ne-eqb}
@@ -77,7 +77,7 @@ needs-place-requires c κs =
     let runs = sym (status-at .ensures) ∙ past .before .if1 .left in
     let here =
     c .node-at .ensures
-    ∙ ap (nodeAt (start (c .before .before .before) .args .table .now))
+    ∙ ap (nodeAt (decode (start (c .before .before .before) .args .table .now)))
     (c .before .top .ensures ∙ ap top (process-at .ensures)) in
     rw (process-at .ensures) (run-topped (given .0) (given .1) (given .2) runs here)
 

@@ -1,7 +1,7 @@
 -- `questions::start_asked` meets its contract.
 use Rattle.questions.proofs.QuestionLaws.{given-fits}
 use Rattle.table.specs.Header.{headerOf}
-use Rattle.rules.proofs.Formed.{formed}
+use Rattle.rules.proofs.Formed.{formed, exact}
 use Rattle.rules.specs.Table.{variables}
 use Rattle.rules.specs.Evaluation.{doors}
 use Rattle.rules.specs.Start.{startSize}
@@ -27,8 +27,8 @@ returns-2 c = rw (le-leb _ _ (c .before .before .if1 .left), lt-leb _ _ (c .befo
 
 header-requires : tie.Need-header-requires
 header-requires c κs =
-    let shape = formed _ (c .before .before .before .before .before .before .pre) in
-    omega (arith, shape .sized)
+    let sized = exact _ (c .before .before .before .before .before .before .pre) in
+    omega (arith, sized)
 
 add-size : tie.Need-add-size
 unfolding headerOf

@@ -18,28 +18,29 @@ use mathlib.Core.List.{List}
 use mathlib.Core.Path.{_≡_, sym, _∙_, ap, subst}
 use Rattle.scheduler.proofs.first_left.Statement.{statement}
 use Rattle.scheduler.proofs.first_left.Tie as tie
+use Rattle.rules.specs.Table.{Program, decode}
 
 -- what is left, by the event that the code has told
 told : {table : List ℕ} {header : Header} {state roll : List ℕ} {count p : ℕ} {e f : Event}
-    → Turned table header state roll count p e → e ≡ f → LeftBy f table state roll count p
-told {table} {header} {state} {roll} {count} {p} turned same = subst (λ x. LeftBy x table state roll count p) same (turned .left)
+    → Turned table header state roll count p e → e ≡ f → LeftBy f (decode table) state roll count p
+told {table} {header} {state} {roll} {count} {p} turned same = subst (λ x. LeftBy x (decode table) state roll count p) same (turned .left)
 
-module _ {table state roll : List ℕ} {count p : ℕ} (on : MovedOn table state roll count p) where
-  fit-again : leaveFits table (processAt state p) ≡ true → count ≡ unfitIn table state roll count
+module _ {program : Program} {state roll : List ℕ} {count p : ℕ} (on : MovedOn program state roll count p) where
+  fit-again : leaveFits program (processAt state p) ≡ true → count ≡ unfitIn program state roll count
   fit-again e =
-      sym (first-none (processFits table state roll) count
+      sym (first-none (processFits program state roll) count
       (λ q l. elim (ℕ-discrete q p) [ yes same ↦ rw same (on .own ∙ e) | no n ↦ on .others q l n ]))
 
-  unfit-now : p < count → leaveFits table (processAt state p) ≡ false → p ≡ unfitIn table state roll count
+  unfit-now : p < count → leaveFits program (processAt state p) ≡ false → p ≡ unfitIn program state roll count
   unfit-now l e =
-      sym (first-at (processFits table state roll) count p l
+      sym (first-at (processFits program state roll) count p l
       (λ q m. on .others q (omega arith) (λ same. omega arith)) (on .own ∙ e))
 
 abbrev start : tie.After-enum-told → tie.Start
 start c = c .before .before .before .before .before
 
 moved : (c : tie.After-enum-told)
-    → MovedOn (start c .args .table .now) (start c .args .state .now) (start c .args .roll .now) (start c .args .count)
+    → MovedOn (decode (start c .args .table .now)) (start c .args .state .now) (start c .args .roll .now) (start c .args .count)
     (start c .args .p)
 moved c = told (start c .pre) (c .enum-told .given .1)
 
@@ -52,7 +53,7 @@ process-at-requires c κs = search needs
 -- what both tests of the leave are given
 on-top : (c : tie.After-process-at)
     → Read (start (c .before) .args .table .now) (start (c .before) .args .header) × Stacked (now (c .process-at .result))
-    × (isStatement (start (c .before) .args .table .now) (top (now (c .process-at .result))) ≡ true)
+    × (isStatement (decode (start (c .before) .args .table .now)) (top (now (c .process-at .result))) ≡ true)
 on-top c =
     let on = moved (c .before) in
     (start (c .before) .pre .read, rw (c .process-at .ensures) (on .stacked), rw (c .process-at .ensures) (on .statement))

@@ -1,7 +1,7 @@
 -- `scheduler::serve_team` meets its contract.
 use Rattle.scheduler.proofs.ServingSteps.{served-asked}
 use Rattle.machine.proofs.VerdictSteps.{asked-formed, asked-of}
-use Rattle.rules.proofs.Formed.{formed}
+use Rattle.rules.proofs.Formed.{exact}
 use Rattle.rules.specs.Step.{processesIn}
 use Rattle.table.specs.Header.{headerOf}
 use native.Mathlib.Omega.{arith}
@@ -19,8 +19,8 @@ cast-count c =
 
 header-requires : tie.Need-header-requires
 header-requires c κs =
-    let shape = formed _ (asked-formed _ _ _ _ (c .before .before .before .pre)) in
-    omega (arith, shape .sized)
+    let sized = exact _ (asked-formed _ _ _ _ (c .before .before .before .pre)) in
+    omega (arith, sized)
 
 serve-asked-requires : tie.Need-serve-asked-requires
 unfolding processesIn

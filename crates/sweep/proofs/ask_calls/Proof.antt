@@ -2,7 +2,7 @@
 use mathlib.Core.Logic.{inl}
 use mathlib.Core.Path.{refl, _∙_}
 use native.Mathlib.Omega.{arith}
-use Rattle.rules.specs.Table.{nodes, statementAt}
+use Rattle.rules.specs.Table.{decode, nodes, statementAt}
 use Rattle.visit.specs.Facts.{guardCode}
 use Rattle.visit.proofs.LeastLaws.{least-high}
 use Rattle.sweep.proofs.FormedLaws.{refused12, accepted12, refused26, unjudged, judged-next, judged-verdict, well-built}
@@ -39,7 +39,7 @@ pass-leaves-requires c κs =
     let passed = well-built filled (accepted12 (filled .sized) (called .first) (start .args .judged) (c .before .if1 .left)) in (
       (
         record { well-built = passed; headed = filled .sized .read },
-        omega (arith, kept .ruled .least, least-high (guardCode (start .args .table .now) (statementAt (start .args .table .now))) (nodes (start .args .table .now))),
+        omega (arith, kept .ruled .least, least-high (guardCode (decode (start .args .table .now)) (statementAt (decode (start .args .table .now)))) (nodes (decode (start .args .table .now)))),
         called .size,
       ),
       rw (called .leaves) (kept .noted),
@@ -98,7 +98,7 @@ returns-3 c =
     let called = walk .first-call .ensures in
     let leaves = c .before .before .before .before .before .before .before .before .before .before .pass-leaves .ensures in
     let kept = start .pre .1 in
-    let whole = statementAt (start .args .table .now) in
+    let whole = statementAt (decode (start .args .table .now)) in
     c .verdict .ensures
     ∙ judged-verdict filled whole (λ k. inl refl) (rw (leaves .facts ∙ called .facts) (kept .ruled .facts)) (kept .ruled .least)
     (leaves .least (rw (called .facts) (kept .ruled .facts))) (c .before .unflagged .ensures)

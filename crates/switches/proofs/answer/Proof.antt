@@ -7,9 +7,9 @@ use lib.ListN.{length}
 use Rattle.rules.specs.declared.Verdict.the-variants.{Accepted, Refused}
 use Rattle.rules.specs.Acceptance.{judgedBy, judged}
 use Rattle.rules.specs.Answers.{_then_}
-use Rattle.rules.specs.Table.{statementAt}
+use Rattle.rules.specs.Table.{decode, statementAt}
 use Rattle.rules.specs.WellFormed.{wellFormed}
-use Rattle.rules.proofs.Formed.{formed}
+use Rattle.rules.proofs.Formed.{exact}
 use Rattle.switches.specs.Aside.{asidePlane}
 use Rattle.switches.proofs.FourLaws.{work-length, aside-put-work, length-put-work}
 use Rattle.switches.proofs.NumberLaws.{refused-judged, refused-formed, whole-accepted}
@@ -43,13 +43,13 @@ abbrev table : tie.Then1 → List ℕ
 table told = told .before .before .before .before .before .before .before .before .before .before .before .args .table .now
 
 by-13-to-17 : (told : tie.Then1) → (wellFormed (table told) ≡ Accepted)
-    × (Refused (told .before .before .before .whole .given .0 .0) ≡ judgedBy (table told) (statementAt (table told)))
+    × (Refused (told .before .before .before .whole .given .0 .0) ≡ judgedBy (decode (table told)) (statementAt (decode (table told))))
 by-13-to-17 told =
     refused-judged (table told) _ (sym (told .before .before .before .whole .given .1) ∙ told .before .before .before .before .before .before .before .accepted .ensures)
     (sym (told .before .by-rules .ensures) ∙ told .if1 .taken)
 
 header-requires : tie.Need-header-requires
-header-requires c κs = omega (arith, formed (table c) (by-13-to-17 c .0) .sized)
+header-requires c κs = omega (arith, exact (table c) (by-13-to-17 c .0))
 
 judge-again-requires : tie.Need-judge-again-requires
 judge-again-requires c κs =
@@ -72,7 +72,7 @@ same-length c = search needs
 returns : tie.Need-returns
 returns c =
     let told = c .before .before .before .before .before in
-    c .before .before .judge-again .ensures ∙ sym (ap (λ v. v then judged (table told)) (by-13-to-17 told .0))
+    c .before .before .judge-again .ensures ∙ sym (ap (λ v. v then judged (decode (table told))) (by-13-to-17 told .0))
 
 same-length-2 : tie.Need-same-length-2
 same-length-2 c = search needs

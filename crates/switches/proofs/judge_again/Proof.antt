@@ -11,6 +11,7 @@ use Rattle.switches.proofs.FourLaws.{aside-lent, aside-put-aside, lengt
 use borrow.Author.Needs.{needs}
 use Rattle.switches.proofs.judge_again.Statement.{statement}
 use Rattle.switches.proofs.judge_again.Tie as tie
+use Rattle.rules.specs.Table.{decode}
 
 sub-set-aside : tie.Need-sub-set-aside
 sub-set-aside c = search needs
@@ -55,8 +56,8 @@ returns c =
     ∙ aside-put-aside planes size words (aside .size) in
     let none = rw lent at (sym (c .before .none-marked .ensures) ∙ c .if1 .taken) in
     start .pre .3
-    ∙ ap (judgedBy (start .args .table .now))
-    (sym (none-aside (start .args .table .now) formed words aside (λ k l. none-set words none k (omega (arith, aside .size)))))
+    ∙ ap (judgedBy (decode (start .args .table .now)))
+    (sym (none-aside (decode (start .args .table .now)) formed words aside (λ k l. none-set words none k (omega (arith, aside .size)))))
 
 judge-counted-requires : tie.Need-judge-counted-requires
 judge-counted-requires c κs =

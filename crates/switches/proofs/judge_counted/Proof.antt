@@ -4,7 +4,7 @@ use native.Mathlib.Omega.{arith}
 use borrow.Rule.Slice.PartMut.{midOf, putMid}
 use lib.ListN.{length}
 use Rattle.rules.specs.Judgement.{counted}
-use Rattle.rules.specs.Table.{nodes}
+use Rattle.rules.specs.Table.{decode, nodes}
 use Rattle.sweep.proofs.FormedLaws.{well-filled, judged-verdict}
 use Rattle.table.proofs.BitLaws.{cleared}
 use Rattle.visit.specs.Facts.{guardCode, FactsTo}
@@ -72,7 +72,7 @@ pass-again-requires c κs =
       (
         begun .pre .0,
         beside-work planes (beside .size) words (clear .size) beside,
-        omega (arith, known .ruled .least, least-high (guardCode table (counted table)) (nodes table)),
+        omega (arith, known .ruled .least, least-high (guardCode (decode table) (counted (decode table))) (nodes (decode table))),
       ),
       (rw same (clear .left), rw same (clear .held)),
     )
@@ -113,10 +113,10 @@ returns c =
     let words = cleared-leaves .clear-leaves .last .0 in
     let leaves = passed .pass-again .ensures .1 in
     let same = work-put-work planes (beside .size) words (clear .size) in
-    let facts : FactsTo table (counted table) (nodes table) (factsPlane (workPlanes (putMid 0 allPlanes planes words))) =
+    let facts : FactsTo (decode table) (counted (decode table)) (nodes (decode table)) (factsPlane (workPlanes (putMid 0 allPlanes planes words))) =
     rw (same, clear .facts) (known .ruled .facts) in
     c .verdict .ensures
-    ∙ judged-verdict (well-filled (read .well-formed) (read .headed)) (counted table) (each-counted table) (rw (leaves .facts) facts)
+    ∙ judged-verdict (well-filled (read .well-formed) (read .headed)) (counted (decode table)) (each-counted (decode table)) (rw (leaves .facts) facts)
     (known .ruled .least) (leaves .least facts) (c .before .unflagged .ensures)
 
 pub judge-counted-spec : {M : Type 1} → statement M

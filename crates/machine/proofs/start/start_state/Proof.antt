@@ -5,9 +5,9 @@ use Rattle.machine.specs.Layout.{Startable}
 use Rattle.table.specs.Header.{headerOf}
 use Rattle.rules.proofs.VerdictLaws.{laid, start-words-length}
 use Rattle.rules.proofs.ProcessLaws.{KeepsBelow, each-below-length, process-length}
-use Rattle.rules.proofs.Formed.{formed}
+use Rattle.rules.proofs.Formed.{formed, exact}
 use Rattle.rules.specs.Table
-use Rattle.rules.specs.Table.{procedures, mainBody, body}
+use Rattle.rules.specs.Table.{decode, procedures, mainBody, body}
 use Rattle.rules.specs.Start.{startSize, startProcess, startWords, startState}
 use Rattle.rules.specs.Evaluation.{doors}
 use Rattle.rules.specs.Process.{processWords, eachProcess, withProcess}
@@ -22,21 +22,21 @@ use Rattle.machine.proofs.start.start_state.Statement.{statement}
 use Rattle.machine.proofs.start.start_state.Tie as tie
 
 abbrev laid-for : List ℕ → List ℕ → ℕ → List ℕ → List ℕ
-laid-for table words q earlier = startProcess table (startWords table words q)
+laid-for table words q earlier = startProcess (decode table) (startWords (decode table) words q)
 
 -- the processes below p are laid out
 record Laying (table : List ℕ) (count : ℕ) (words state₀ : List ℕ) (v entry : ℕ) (state : List ℕ) (p : ℕ)
     : Type 0 where
   within : p ≤ count
-  counted : v ≡ Table.variables table
-  entered : entry ≡ mainBody table
+  counted : v ≡ Table.variables (decode table)
+  entered : entry ≡ mainBody (decode table)
   reached : state ≡ eachProcess (laid-for table words) p state₀
 
 laid-keeps : {table : List ℕ} {count : ℕ} {words state : List ℕ} → Startable table count words state
     → KeepsBelow (laid-for table words) count
 laid-keeps {table} {count} {words} s q earlier l h =
-    laid table (startWords table words q) (formed table (s .well-formed) .variables-high)
-    (start-words-length table words count q (s .worded) l)
+    laid (decode table) (startWords (decode table) words q) (formed table (s .well-formed) .variables-high)
+    (start-words-length (decode table) words count q (s .worded) l)
     .sized
 
 still-sized : {table : List ℕ} {count : ℕ} {words state₀ : List ℕ} {v entry : ℕ} {state : List ℕ} {p : ℕ}
@@ -47,8 +47,8 @@ still-sized {table} {count} {words} {state₀} {p = p} s i =
     ∙ each-below-length (laid-for table words) state₀ count (laid-keeps s) (s .stated) p (i .within)
     ∙ s .stated
 
-given-is : (table words : List ℕ) (p : ℕ) {v : ℕ} {given : List ℕ} → v ≡ Table.variables table
-    → given ≡ take (v + doors) (drop ((v + doors) * p) words) → given ≡ startWords table words p
+given-is : (table words : List ℕ) (p : ℕ) {v : ℕ} {given : List ℕ} → v ≡ Table.variables (decode table)
+    → given ≡ take (v + doors) (drop ((v + doors) * p) words) → given ≡ startWords (decode table) words p
 unfolding startWords startSize
 given-is table words p e g = rw (← e) g
 
@@ -63,8 +63,8 @@ start c = c .before .before .before .before .before .before
 
 header-requires : tie.Need-header-requires Inv-loop μ-loop
 header-requires c κs =
-    let shape = formed _ (c .before .before .before .pre .well-formed) in
-    omega (arith, shape .sized)
+    let sized = exact _ (c .before .before .before .pre .well-formed) in
+    omega (arith, sized)
 
 sub-body : tie.Need-sub-body Inv-loop μ-loop
 unfolding headerOf
@@ -76,7 +76,7 @@ body-requires : tie.Need-body-requires Inv-loop μ-loop
 unfolding headerOf
 body-requires c κs =
     let shape = formed _ (c .before .before .before .before .before .pre .well-formed) in
-    omega (arith, shape .procedures-low, shape .sized, ap (λ h. h .procedures) (c .before .header .ensures))
+    omega (arith, shape .procedures-low, exact _ (c .before .before .before .before .before .pre .well-formed), ap (λ h. h .procedures) (c .before .header .ensures))
 
 cast-entry : tie.Need-cast-entry Inv-loop μ-loop
 unfolding headerOf
@@ -99,7 +99,7 @@ loop-holds c =
     record {
       within = omega arith;
       counted = ap (λ h. h .variables) (header .ensures);
-      entered = c .body .ensures ∙ ap (λ h. body (start c .args .table .now) (h .procedures - 1)) (header .ensures);
+      entered = c .body .ensures ∙ ap (λ h. body (decode (start c .args .table .now)) (h .procedures - 1)) (header .ensures);
       reached = refl;
     }
 
@@ -175,9 +175,9 @@ loop-again c =
     lay-out .kept .0
     ∙ ap length (lent state p)
     ∙ process-length state count p (still-sized pre inv) (loop-test .taken) in
-    let laid-out : last ≡ startProcess table (startWords table words p) =
-    laid-all table (startWords table words p) (formed table (pre .well-formed) .variables-high)
-    (start-words-length table words count p (pre .worded) (loop-test .taken)) last sized
+    let laid-out : last ≡ startProcess (decode table) (startWords (decode table) words p) =
+    laid-all (decode table) (startWords (decode table) words p) (formed table (pre .well-formed) .variables-high)
+    (start-words-length (decode table) words count p (pre .worded) (loop-test .taken)) last sized
     (λ i l. rw (inv .counted, inv .entered, mine) at (lay-out .ensures i l)) in
     let next : p + 1 ≡ suc p = add-one p in
     record {

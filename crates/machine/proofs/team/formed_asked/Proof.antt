@@ -1,6 +1,6 @@
 -- `machine::team::formed_asked` meets its contract.
 use Rattle.machine.proofs.VerdictSteps.{sizes, unsized, left-over, team-of}
-use Rattle.rules.proofs.Formed.{formed}
+use Rattle.rules.proofs.Formed.{exact}
 use Rattle.rules.specs.declared.Verdict.the-variants.{Accepted}
 use Rattle.rules.specs.Step.{processesIn}
 use Rattle.table.specs.Header.{headerOf}
@@ -37,8 +37,8 @@ cast-count c =
 
 header-requires : tie.Need-header-requires
 header-requires c κs =
-    let shape = formed _ (start c .pre) in
-    omega (arith, shape .sized)
+    let sized = exact _ (start c .pre) in
+    omega (arith, sized)
 
 team-asked-requires : tie.Need-team-asked-requires
 unfolding processesIn

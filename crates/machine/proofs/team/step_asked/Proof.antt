@@ -1,7 +1,7 @@
 -- `machine::team::step_asked` meets its contract.
 use Rattle.machine.proofs.VerdictSteps.{asked-formed, asked-of, ready-of, denied-place, taken-step}
 use Rattle.machine.specs.Outcomes.{Asked}
-use Rattle.rules.proofs.Formed.{formed}
+use Rattle.rules.proofs.Formed.{exact}
 use Rattle.rules.specs.Step.{processesIn}
 use Rattle.table.specs.Header.{headerOf}
 use native.Mathlib.Omega.{arith}
@@ -28,8 +28,8 @@ cast-count c =
 
 header-requires : tie.Need-header-requires
 header-requires c κs =
-    let shape = formed _ (asked-formed _ _ _ _ (c .before .before .before .pre)) in
-    omega (arith, shape .sized)
+    let sized = exact _ (asked-formed _ _ _ _ (c .before .before .before .pre)) in
+    omega (arith, sized)
 
 place-lacked-requires : tie.Need-place-lacked-requires
 unfolding processesIn

@@ -4,7 +4,7 @@ use Rattle.process.proofs.LentLaws.{depth-with}
 use Rattle.meeting.proofs.ArrivalMoves.{running-at, end-running}
 use Rattle.rules.proofs.StackLaws.{advanced-length}
 use Rattle.rules.proofs.ProcessLaws.{process-length}
-use Rattle.rules.specs.Table.{statementAt}
+use Rattle.rules.specs.Table.{decode, statementAt}
 use Rattle.rules.specs.Process.{depthAt, processWords, processAt, environment, top, advanced, depth}
 use Rattle.rules.specs.Arrivals.{withArrival}
 use Prim.Native.Nat.{ℕ, _+_, _*_}
@@ -23,7 +23,7 @@ abbrev moved : tie.After-advance-in → List ℕ
 moved c =
     let args = start c .args in
     let here = processAt (args .state .now) (args .p) in
-    advanced (args .table .now) (environment here (args .p) (args .count)) here (statementAt (args .table .now) (top here))
+    advanced (decode (args .table .now)) (environment here (args .p) (args .count)) here (statementAt (decode (args .table .now)) (top here))
 
 -- the depth read off the state is theirs
 left : (c : tie.After-advance-in)
@@ -32,7 +32,7 @@ left c =
     let args = start c .args in
     let given = start c .pre in
     let sized : length (moved c) ≡ processWords =
-    advanced-length (args .table .now) _ (processAt (args .state .now) (args .p)) _
+    advanced-length (decode (args .table .now)) _ (processAt (args .state .now) (args .p)) _
     ∙ process-length (args .state .now) (args .count) (args .p) (given .0 .stated) (given .1) in
     ap (λ l. getD l (processWords * args .p + depthAt) 0) (c .advance-in .ensures)
     ∙ depth-with (args .state .now) (moved c) (args .count) (args .p) (given .0 .stated) sized (given .1)

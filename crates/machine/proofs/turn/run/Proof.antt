@@ -4,7 +4,7 @@ use Rattle.machine.proofs.TeamLaws.{ready-stacked, ready-statement, rea
 use Rattle.process.proofs.StatementLaws.{statement-below}
 use Rattle.process.proofs.ReadLaws.{readable, read-formed}
 use Rattle.process.specs.Given.{isCollective}
-use Rattle.rules.specs.Table.{nodeAt}
+use Rattle.rules.specs.Table.{decode, nodeAt}
 use Rattle.rules.specs.Process.{processAt, top}
 use mathlib.Core.Path.{_≡_, sym, _∙_, ap}
 use mathlib.Core.Bool.{true, false}
@@ -19,10 +19,10 @@ start c = c .before .before .before .before .before .before .before
 -- the node read is the one on top of the process's stack
 on-top : (c : tie.After-node-at)
     → c .node-at .result
-    ≡ nodeAt (start c .args .table .now) (top (processAt (start c .args .state .now) (start c .args .p)))
+    ≡ nodeAt (decode (start c .args .table .now)) (top (processAt (start c .args .state .now) (start c .args .p)))
 on-top c =
     c .node-at .ensures
-    ∙ ap (nodeAt (start c .args .table .now)) (c .before .top .ensures ∙ ap top (c .before .before .process-at .ensures))
+    ∙ ap (nodeAt (decode (start c .args .table .now))) (c .before .top .ensures ∙ ap top (c .before .before .process-at .ensures))
 
 process-at-requires : tie.Need-process-at-requires
 process-at-requires c κs = search needs

@@ -4,6 +4,7 @@ use mathlib.Core.Path.{sym, _∙_}
 use borrow.Author.Needs.{needs}
 use Rattle.machine.proofs.turn.take_turn.Statement.{statement}
 use Rattle.machine.proofs.turn.take_turn.Tie as tie
+use Rattle.rules.specs.Table.{decode}
 
 status-at-requires : tie.Need-status-at-requires
 status-at-requires c κs = search needs
@@ -22,7 +23,7 @@ returns c =
     let past = c .before .before .before .before .before .before .before in
     let status-at = past .before .status-at in
     let args = past .before .before .before .before .before .before .args in
-    rw (taken-run (args .table .now) (args .state .now) (args .roll .now) (args .count) (args .p)
+    rw (taken-run (decode (args .table .now)) (args .state .now) (args .roll .now) (args .count) (args .p)
     (sym (status-at .ensures) ∙ past .if1 .taken))
     (c .before .before .before .before .run .ensures)
 

@@ -9,7 +9,7 @@ use borrow.Author.Needs.{needs}
 use Rattle.rules.specs.declared.Node.{Node}
 use Rattle.rules.specs.Evaluation.{Environment, value, valueOf}
 use Rattle.rules.specs.Process.{processWords, environment}
-use Rattle.rules.specs.Table.{lastExpression, Expression, nodeAt, expressionOf, door, slot, operation}
+use Rattle.rules.specs.Table.{decode, lastExpression, Expression, nodeAt, expressionOf, door, slot, operation}
 use Rattle.rules.specs.WellFormed.{expressionPart}
 use Rattle.rules.proofs.Formed.{Formed, formed}
 use Rattle.rules.proofs.KindLaws.{door-of, slot-of, variable-field, slot-fields, first-part, second-part}
@@ -81,13 +81,13 @@ value-at-callees t = (
 )
 
 -- what a leaf is given
-leaf-given : (table : List ℕ) → Formed table → (n : ℕ) (m : Node) → m ≡ nodeAt table n → m .kind < 4 → (words : List ℕ)
+leaf-given : (table : List ℕ) → Formed (decode table) → (n : ℕ) (m : Node) → m ≡ nodeAt (decode table) n → m .kind < 4 → (words : List ℕ)
     → length words ≡ processWords
     → ((m .kind < 4) × (m .b < 512) × (m .c < 512) × (length words ≡ processWords)) × (m .kind ≡ 1 → m .a < processWords)
 leaf-given table f n m here low words sized =
-    let fields : Packed m = packed-here table f n m here in (
+    let fields : Packed m = packed-here table n m here in (
       (low, fields .b-low, fields .c-low, sized),
-      λ e. omega (arith, variable-field table f n m here e, f .variables-high),
+      λ e. omega (arith, variable-field (decode table) f n m here e, f .variables-high),
     )
 
 -- the stage where the node is read
@@ -103,20 +103,20 @@ table t c = start t c .args .table .now
 abbrev env : (t : ℕ) → Read t → Environment
 env t c = environment (start t c .args .words .now) (start t c .args .own) (start t c .args .count)
 
-shape : (t : ℕ) → (c : Read t) → Formed (table t c)
+shape : (t : ℕ) → (c : Read t) → Formed (decode (table t c))
 shape t c = formed (table t c) (start t c .pre .1 .0 .read .well-formed)
 
 low : (t : ℕ) → (c : Read t) → c .node-at .result .kind ≤ lastExpression
 low t c =
-    kind-low (table t c) (shape t c) (start t c .args .n) (c .node-at .result) (c .node-at .ensures)
+    kind-low (decode (table t c)) (shape t c) (start t c .args .n) (c .node-at .result) (c .node-at .ensures)
     (start t c .pre .1 .1 .1)
 
 -- the node's value is that of its expression
 valued : (t : ℕ) → (c : Read t) → (e : Expression) → expressionOf (c .node-at .result) ≡ e
-    → valueOf (env t c) (value (table t c) (env t c)) e ≡ value (table t c) (env t c) (start t c .args .n)
+    → valueOf (env t c) (value (decode (table t c)) (env t c)) e ≡ value (decode (table t c)) (env t c) (start t c .args .n)
 valued t c e same =
     sym
-    (value-here (table t c) (shape t c) (start t c .args .n) (c .node-at .result) (c .node-at .ensures)
+    (value-here (decode (table t c)) (shape t c) (start t c .args .n) (c .node-at .result) (c .node-at .ensures)
     (env t c) e same)
 
 evaluate-node-at-requires : (t : ℕ) → evaluate-lts.Need-node-at-requires (callees t) (evaluate-at t) evaluate.Post
@@ -131,7 +131,7 @@ evaluate-leaf-requires t c κs =
 evaluate-returns : (t : ℕ) → evaluate-lts.Need-returns (callees t) (evaluate-at t) evaluate.Post
 evaluate-returns t c =
     let read = c .before .before in
-    c .leaf .ensures (value (table t read) (env t read)) ∙ valued t read (expressionOf (read .node-at .result)) refl
+    c .leaf .ensures (value (decode (table t read)) (env t read)) ∙ valued t read (expressionOf (read .node-at .result)) refl
 
 evaluate-cast-value-at : (t : ℕ) → evaluate-lts.Need-cast-value-at (callees t) (evaluate-at t) evaluate.Post
 evaluate-cast-value-at t c = search needs
@@ -141,10 +141,10 @@ evaluate-value-at-requires t c κs =
     let read = c .before .before in
     let n = start t read .args .n in
     let m = read .node-at .result in
-    let part : expressionPart (table t read) n (m .a) ≡ true =
-    first-part (table t read) (shape t read) n m (read .node-at .ensures) (c .before .if1 .left) (low t read) in
-    let below : m .a < n = expression-part-below (table t read) n (m .a) part in
-    (omega arith, (start t read .pre .1 .0, (omega arith, expression-part-sort (table t read) n (m .a) part)))
+    let part : expressionPart (decode (table t read)) n (m .a) ≡ true =
+    first-part (decode (table t read)) (shape t read) n m (read .node-at .ensures) (c .before .if1 .left) (low t read) in
+    let below : m .a < n = expression-part-below (decode (table t read)) n (m .a) part in
+    (omega arith, (start t read .pre .1 .0, (omega arith, expression-part-sort (decode (table t read)) n (m .a) part)))
 
 evaluate-door-requires : (t : ℕ) → evaluate-lts.Need-door-requires (callees t) (evaluate-at t) evaluate.Post
 evaluate-door-requires t c κs = start t (c .before .before .before .before) .pre .1 .0 .sized
@@ -155,7 +155,7 @@ evaluate-returns-2 t c =
     let first = c .before .before .value-at in
     let read = c .before .before .before .before .before in
     let m = read .node-at .result in
-    let known : first .result ≡ value (table t read) (env t read) (m .a) = first .ensures in
+    let known : first .result ≡ value (decode (table t read)) (env t read) (m .a) = first .ensures in
     c .door .ensures ∙ rw known (valued t read (door (m .a)) (door-of m (c .before .if2 .taken)))
 
 evaluate-cast-slot : (t : ℕ) → evaluate-lts.Need-cast-slot (callees t) (evaluate-at t) evaluate.Post
@@ -166,7 +166,7 @@ evaluate-slot-requires t c κs =
     let read = c .before .before .before .before .before .before in
     let given = start t read .pre .1 .0 in
     let fields =
-    slot-fields (table t read) (shape t read) (start t read .args .n) (read .node-at .result) (read .node-at .ensures)
+    slot-fields (decode (table t read)) (shape t read) (start t read .args .n) (read .node-at .result) (read .node-at .ensures)
     (c .before .if3 .taken) in
     (given .sized, given .few, fields .1)
 
@@ -176,7 +176,7 @@ evaluate-returns-3 t c =
     let first = c .before .before .before .before .value-at in
     let read = c .before .before .before .before .before .before .before in
     let m = read .node-at .result in
-    let known : first .result ≡ value (table t read) (env t read) (m .a) = first .ensures in
+    let known : first .result ≡ value (decode (table t read)) (env t read) (m .a) = first .ensures in
     c .slot .ensures ∙ rw known (valued t read (slot (m .a) (m .b)) (slot-of m (c .before .before .if3 .taken)))
 
 evaluate-cast-value-at-2 : (t : ℕ) → evaluate-lts.Need-cast-value-at-2 (callees t) (evaluate-at t) evaluate.Post
@@ -187,10 +187,10 @@ evaluate-value-at-requires-2 t c κs =
     let read = c .before .before .before .before .before .before in
     let n = start t read .args .n in
     let m = read .node-at .result in
-    let part : expressionPart (table t read) n (m .b) ≡ true =
-    second-part (table t read) (shape t read) n m (read .node-at .ensures) (omega arith) (low t read) in
-    let below : m .b < n = expression-part-below (table t read) n (m .b) part in
-    (omega arith, (start t read .pre .1 .0, (omega arith, expression-part-sort (table t read) n (m .b) part)))
+    let part : expressionPart (decode (table t read)) n (m .b) ≡ true =
+    second-part (decode (table t read)) (shape t read) n m (read .node-at .ensures) (omega arith) (low t read) in
+    let below : m .b < n = expression-part-below (decode (table t read)) n (m .b) part in
+    (omega arith, (start t read .pre .1 .0, (omega arith, expression-part-sort (decode (table t read)) n (m .b) part)))
 
 evaluate-apply-requires : (t : ℕ) → evaluate-lts.Need-apply-requires (callees t) (evaluate-at t) evaluate.Post
 evaluate-apply-requires t c κs = omega arith
@@ -202,8 +202,8 @@ evaluate-returns-4 t c =
     let second = c .before .value-at2 in
     let read = c .before .before .before .before .before .before .before .before in
     let m = read .node-at .result in
-    let left : first .result ≡ value (table t read) (env t read) (m .a) = first .ensures in
-    let right : second .result ≡ value (table t read) (env t read) (m .b) = second .ensures in
+    let left : first .result ≡ value (decode (table t read)) (env t read) (m .a) = first .ensures in
+    let right : second .result ≡ value (decode (table t read)) (env t read) (m .b) = second .ensures in
     let high : 6 ≤ m .kind =
     omega (
       arith,
@@ -221,7 +221,7 @@ Looked t = value-at-lts.After-node-at (value-at-callees t) (value-at-at t) value
 abbrev begun : (t : ℕ) → Looked t → value-at-lts.Start (value-at-callees t) (value-at-at t) value-at.Post
 begun t c = c .before .before .before
 
-looked-formed : (t : ℕ) → (c : Looked t) → Formed (begun t c .args .table .now)
+looked-formed : (t : ℕ) → (c : Looked t) → Formed (decode (begun t c .args .table .now))
 looked-formed t c = formed (begun t c .args .table .now) (begun t c .pre .1 .0 .read .well-formed)
 
 value-at-node-at-requires : (t : ℕ) → value-at-lts.Need-node-at-requires (value-at-callees t) (value-at-at t) value-at.Post
@@ -239,9 +239,9 @@ value-at-returns t c =
     let args = begun t read .args in
     let table = args .table .now in
     let env = environment (args .words .now) (args .own) (args .count) in
-    c .leaf .ensures (value table env)
+    c .leaf .ensures (value (decode table) env)
     ∙ sym
-    (value-here table (looked-formed t read) (args .n) (read .node-at .result) (read .node-at .ensures) env
+    (value-here (decode table) (looked-formed t read) (args .n) (read .node-at .result) (read .node-at .ensures) env
     (expressionOf (read .node-at .result)) refl)
 
 value-at-evaluate-requires : (t : ℕ) → value-at-lts.Need-evaluate-requires (value-at-callees t) (value-at-at t) value-at.Post

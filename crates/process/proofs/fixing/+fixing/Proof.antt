@@ -5,7 +5,7 @@ use mathlib.Core.Path.{_≡_, sym, _∙_, ap}
 use native.Mathlib.Omega.{arith}
 use borrow.Author.Needs.{needs}
 use Rattle.rules.specs.declared.Node.{Node}
-use Rattle.rules.specs.Table.{lastExpression, nodeAt}
+use Rattle.rules.specs.Table.{decode, lastExpression, nodeAt}
 use Rattle.rules.specs.WellFormed.{expressionPart}
 use Rattle.rules.proofs.Formed.{Formed, formed}
 use Rattle.rules.proofs.KindLaws.{first-part, second-part}
@@ -58,12 +58,12 @@ start t c = c .before .before
 abbrev table : (t : ℕ) → Looked t → List ℕ
 table t c = start t c .args .table .now
 
-shape : (t : ℕ) → (c : Looked t) → Formed (table t c)
+shape : (t : ℕ) → (c : Looked t) → Formed (decode (table t c))
 shape t c = formed (table t c) (start t c .pre .1 .0 .well-formed)
 
 low : (t : ℕ) → (c : Looked t) → c .node-at .result .kind ≤ lastExpression
 low t c =
-    kind-low (table t c) (shape t c) (start t c .args .n) (c .node-at .result) (c .node-at .ensures)
+    kind-low (decode (table t c)) (shape t c) (start t c .args .n) (c .node-at .result) (c .node-at .ensures)
     (start t c .pre .1 .1 .1)
 
 node-at-requires : (t : ℕ) → lts.Need-node-at-requires (callees t) (given t) fixing.Post
@@ -72,19 +72,19 @@ node-at-requires t c κs = readable (c .before .pre .1 .0) (c .before .pre .1 .1
 constant-requires : (t : ℕ) → lts.Need-constant-requires (callees t) (given t) fixing.Post
 constant-requires t c κs =
     let read = c .before in
-    let fields = packed-here (table t read) (shape t read) (start t read .args .n) (read .node-at .result) (read .node-at .ensures) in
+    let fields = packed-here (table t read) (start t read .args .n) (read .node-at .result) (read .node-at .ensures) in
     (fields .b-low, fields .c-low)
 
 returns : (t : ℕ) → lts.Need-returns (callees t) (given t) fixing.Post
 returns t c =
     let read = c .before .before in
-    fixed-constant (table t read) (shape t read) (start t read .args .n) (read .node-at .result) (read .node-at .ensures)
+    fixed-constant (decode (table t read)) (shape t read) (start t read .args .n) (read .node-at .result) (read .node-at .ensures)
     (c .before .if1 .taken) (c .constant .ensures)
 
 returns-2 : (t : ℕ) → lts.Need-returns-2 (callees t) (given t) fixing.Post
 returns-2 t c =
     let read = c .before .before in
-    fixed-none (table t read) (shape t read) (start t read .args .n) (read .node-at .result) (read .node-at .ensures)
+    fixed-none (decode (table t read)) (shape t read) (start t read .args .n) (read .node-at .result) (read .node-at .ensures)
     (c .before .if1 .left) (c .if2 .taken)
 
 cast-fixing : (t : ℕ) → lts.Need-cast-fixing (callees t) (given t) fixing.Post
@@ -95,10 +95,10 @@ fixing-requires t c κs =
     let read = c .before .before .before in
     let n = start t read .args .n in
     let m = read .node-at .result in
-    let part : expressionPart (table t read) n (m .a) ≡ true =
-    first-part (table t read) (shape t read) n m (read .node-at .ensures) (omega (arith, c .before .if2 .left)) (low t read) in
-    let low-part : m .a < n = expression-part-below (table t read) n (m .a) part in
-    (omega arith, (start t read .pre .1 .0, (omega arith, expression-part-sort (table t read) n (m .a) part)))
+    let part : expressionPart (decode (table t read)) n (m .a) ≡ true =
+    first-part (decode (table t read)) (shape t read) n m (read .node-at .ensures) (omega (arith, c .before .if2 .left)) (low t read) in
+    let low-part : m .a < n = expression-part-below (decode (table t read)) n (m .a) part in
+    (omega arith, (start t read .pre .1 .0, (omega arith, expression-part-sort (decode (table t read)) n (m .a) part)))
 
 enum-known-first : (t : ℕ) → lts.Need-enum-known-first (callees t) (given t) fixing.Post
 enum-known-first t c = search needs
@@ -109,7 +109,7 @@ enum-told t c = search needs
 returns-3 : (t : ℕ) → lts.Need-returns-3 (callees t) (given t) fixing.Post
 returns-3 t c =
     let read = c .before .before .before .before .before .before in
-    first-unfixed (table t read) (shape t read) (start t read .args .n) (read .node-at .result) (read .node-at .ensures)
+    first-unfixed (decode (table t read)) (shape t read) (start t read .args .n) (read .node-at .result) (read .node-at .ensures)
     (c .before .before .before .before .if2 .left) (low t read) (sym (ap fixedAs (c .enum-told .given .1)) ∙ c .before .before .fixing .ensures)
 
 cast-fixing-2 : (t : ℕ) → lts.Need-cast-fixing-2 (callees t) (given t) fixing.Post
@@ -120,10 +120,10 @@ fixing-requires-2 t c κs =
     let read = c .before .before .before .before .before .before .before .before in
     let n = start t read .args .n in
     let m = read .node-at .result in
-    let part : expressionPart (table t read) n (m .b) ≡ true =
-    second-part (table t read) (shape t read) n m (read .node-at .ensures) (c .before .before .before .before .before .before .if2 .left) (low t read) in
-    let low-part : m .b < n = expression-part-below (table t read) n (m .b) part in
-    (omega arith, (start t read .pre .1 .0, (omega arith, expression-part-sort (table t read) n (m .b) part)))
+    let part : expressionPart (decode (table t read)) n (m .b) ≡ true =
+    second-part (decode (table t read)) (shape t read) n m (read .node-at .ensures) (c .before .before .before .before .before .before .if2 .left) (low t read) in
+    let low-part : m .b < n = expression-part-below (decode (table t read)) n (m .b) part in
+    (omega arith, (start t read .pre .1 .0, (omega arith, expression-part-sort (decode (table t read)) n (m .b) part)))
 
 enum-known-second : (t : ℕ) → lts.Need-enum-known-second (callees t) (given t) fixing.Post
 enum-known-second t c = search needs
@@ -134,7 +134,7 @@ enum-told-2 t c = search needs
 returns-4 : (t : ℕ) → lts.Need-returns-4 (callees t) (given t) fixing.Post
 returns-4 t c =
     let read = c .before .before .before .before .before .before .before .before .before .before .before in
-    second-unfixed (table t read) (shape t read) (start t read .args .n) (read .node-at .result) (read .node-at .ensures)
+    second-unfixed (decode (table t read)) (shape t read) (start t read .args .n) (read .node-at .result) (read .node-at .ensures)
     (c .before .before .before .before .before .before .before .before .before .if2 .left) (low t read)
     (sym (ap fixedAs (c .enum-told2 .given .1)) ∙ c .before .before .fixing2 .ensures)
 
@@ -147,7 +147,7 @@ returns-5 t c =
     let first = c .before .before .before .before .before .before .before in
     let second = c .before .before in
     let read = tested .before .before in
-    fixed-operation (table t read) (shape t read) (start t read .args .n) (read .node-at .result) (read .node-at .ensures)
+    fixed-operation (decode (table t read)) (shape t read) (start t read .args .n) (read .node-at .result) (read .node-at .ensures)
     (tested .if2 .left) (low t read) (sym (ap fixedAs (first .first .given .1)) ∙ first .before .before .fixing .ensures)
     (sym (ap fixedAs (second .second .given .1)) ∙ second .before .before .fixing2 .ensures) (c .apply .ensures)
 

@@ -11,9 +11,10 @@ use mathlib.Core.Path.{_≡_, sym, _∙_, ap}
 use mathlib.Core.Bool.{true, false}
 use Rattle.questions.proofs.fitting.first_unfit.Statement.{statement}
 use Rattle.questions.proofs.fitting.first_unfit.Tie as tie
+use Rattle.rules.specs.Table.{decode}
 
 abbrev Inv-loop : tie.InvT-loop
-Inv-loop table header state roll count p₀ p = (p ≤ count) × Passed (processFits table state roll) p
+Inv-loop table header state roll count p₀ p = (p ≤ count) × Passed (processFits (decode table) state roll) p
 
 abbrev μ-loop : tie.MeasureT-loop
 μ-loop table header state roll count p₀ p = count - p
@@ -40,9 +41,9 @@ unfolding processFits
 returns c =
     let loop = c .before .before .before .before .loop in
     let args = c .before .before .before .before .before .before .before .before .args in
-    let fails : processFits (args .table .now) (args .state .now) (args .roll .now) (loop .p) ≡ false =
+    let fails : processFits (decode (args .table .now)) (args .state .now) (args .roll .now) (loop .p) ≡ false =
     rw (← c .before .before .process-at .ensures) (sym (c .before .words-fit .ensures) ∙ not-true _ (c .if1 .taken)) in
-    sym (first-at (processFits (args .table .now) (args .state .now) (args .roll .now)) _ (loop .p)
+    sym (first-at (processFits (decode (args .table .now)) (args .state .now) (args .roll .now)) _ (loop .p)
     (c .before .before .before .loop-test .taken) (loop .inv .1) fails)
 
 add-p : tie.Need-add-p Inv-loop μ-loop
@@ -56,10 +57,10 @@ unfolding processFits
 loop-again c =
     let loop = c .before .before .before .before .loop in
     let args = c .before .before .before .before .before .before .before .before .args in
-    let passes : processFits (args .table .now) (args .state .now) (args .roll .now) (loop .p) ≡ true =
+    let passes : processFits (decode (args .table .now)) (args .state .now) (args .roll .now) (loop .p) ≡ true =
     rw (← c .before .before .process-at .ensures) (sym (c .before .words-fit .ensures) ∙ not-false _ (c .if1 .left)) in (
       omega arith,
-      passed-more (processFits (args .table .now) (args .state .now) (args .roll .now)) (loop .p) (loop .inv .1)
+      passed-more (processFits (decode (args .table .now)) (args .state .now) (args .roll .now)) (loop .p) (loop .inv .1)
           passes,
     )
 

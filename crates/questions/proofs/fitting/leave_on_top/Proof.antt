@@ -3,7 +3,7 @@ use Rattle.process.proofs.ReadLaws.{readable, read-formed}
 use Rattle.process.proofs.StatementLaws.{statement-below}
 use Rattle.rules.proofs.KindLaws.{leave-of, no-leave}
 use Rattle.rules.specs.declared.Node.{Node}
-use Rattle.rules.specs.Table.{nodeAt, statementAt, statementOf, isLeave}
+use Rattle.rules.specs.Table.{decode, nodeAt, statementAt, statementOf, isLeave}
 use borrow.Author.Tests.{eq-eqb, ne-eqb}
 use lib.Dec.{eqb}
 use native.Mathlib.Decide.{ℕ-discrete}
@@ -34,8 +34,8 @@ returns : tie.Need-returns
 unfolding statementAt
 returns c =
     let table = c .before .before .before .before .args .table .now in
-    let same = c .kind-at .ensures ∙ ap (λ n. nodeAt table n .kind) (c .before .top .ensures) in
-    ap (λ k. eqb k 26) same ∙ is-leave (nodeAt table _)
+    let same = c .kind-at .ensures ∙ ap (λ n. nodeAt (decode table) n .kind) (c .before .top .ensures) in
+    ap (λ k. eqb k 26) same ∙ is-leave (nodeAt (decode table) _)
 
 pub leave-on-top-spec : {M : Type 1} → statement M
 leave-on-top-spec = tie.close (tie.spec top-requires cast-n kind-at-requires returns)

@@ -12,6 +12,7 @@ use mathlib.Core.Path.{_≡_, sym, _∙_}
 use borrow.Author.Needs.{needs}
 use Rattle.questions.proofs.fitting.record_fits.Statement.{statement}
 use Rattle.questions.proofs.fitting.record_fits.Tie as tie
+use Rattle.rules.specs.Table.{decode}
 
 status-at-requires : tie.Need-status-at-requires
 status-at-requires c κs = search needs
@@ -61,7 +62,7 @@ stacked c =
     let some : getD words depthAt 0 ≡ 0 → ⊥ = eqb-false (getD words depthAt 0) 0 (c .if3 .left) in
     record { sized = start c .pre .1; held = omega arith; bounded = start c .pre .2 }
 
-on-top : (c : tie.Else3) → isStatement (start c .args .table .now) (top (start c .args .words .now)) ≡ true
+on-top : (c : tie.Else3) → isStatement (decode (start c .args .table .now)) (top (start c .args .words .now)) ≡ true
 on-top c = top-fits _ _ (start c .pre .4) (stacked c .held)
 
 leave-on-top-requires : tie.Need-leave-on-top-requires

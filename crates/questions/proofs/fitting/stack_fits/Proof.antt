@@ -13,14 +13,15 @@ use Rattle.rules.specs.WellFormed.{isStatement}
 use Rattle.rules.proofs.ChoiceLaws.{Passed, passed-none, passed-more, all-true, all-false}
 use Rattle.questions.proofs.fitting.stack_fits.Statement.{statement}
 use Rattle.questions.proofs.fitting.stack_fits.Tie as tie
+use Rattle.rules.specs.Table.{decode}
 
 abbrev entry-fits : List ℕ → List ℕ → ℕ → Bool
-entry-fits table words i = isStatement table (getD words (stackAt + i) 0)
+entry-fits table words i = isStatement (decode table) (getD words (stackAt + i) 0)
 
 -- an entry by its place among the words
-entry-at : (table words : List ℕ) (i at : ℕ) (r : Bool) → at ≡ stackAt + i → r ≡ isStatement table (getD words at 0)
+entry-at : (table words : List ℕ) (i at : ℕ) (r : Bool) → at ≡ stackAt + i → r ≡ isStatement (decode table) (getD words at 0)
     → r ≡ entry-fits table words i
-entry-at table words i at r e h = h ∙ ap (λ (k : ℕ). isStatement table (getD words k 0)) e
+entry-at table words i at r e h = h ∙ ap (λ (k : ℕ). isStatement (decode table) (getD words k 0)) e
 
 -- the last entry decides where all before it have passed
 decides : (test : ℕ → Bool) (n count : ℕ) (r : Bool) → count ≡ n + 1 → Passed test n → r ≡ test n → r ≡ allBelow test count

@@ -1,7 +1,7 @@
 -- `questions::fitting::wait_fits` meets its contract.
 use Rattle.process.proofs.StatementLaws.{statement-below}
 use Rattle.process.proofs.ReadLaws.{readable, read-formed}
-use Rattle.rules.specs.Table.{nodeAt, statementAt, statementOf, onCollective}
+use Rattle.rules.specs.Table.{decode, nodeAt, statementAt, statementOf, onCollective}
 use Rattle.rules.specs.Step.{waitFits, lackedZero}
 use Rattle.rules.specs.Process.{top}
 use borrow.Author.Tests.{eq-eqb, ne-eqb}
@@ -38,7 +38,7 @@ unfolding waitFits statementAt
 returns-2 c =
     let top-call = c .before .before .before .before .top in
     let args = c .before .before .before .before .before .before .before .before .args in
-    let here = c .before .node-at .ensures ∙ ap (nodeAt (args .table .now)) (top-call .ensures) in
+    let here = c .before .node-at .ensures ∙ ap (nodeAt (decode (args .table .now))) (top-call .ensures) in
     rw (eq-eqb _ _ (sym (top-call .ensures) ∙ c .before .before .if1 .left ∙ c .before .before .before .node-of .ensures))
     (c .lacked-zero .ensures ∙ ap (λ m. onCollective (statementOf m) (lackedZero (args .roll .now) (args .p)) false) here)
 

@@ -3,7 +3,7 @@ use mathlib.Core.Path.{_≡_, sym, _∙_, ap}
 use Prim.Native.Nat.{_≤_, _<_, _-_}
 use native.Mathlib.Omega.{arith}
 use lib.ListN.{length}
-use Rattle.rules.specs.Table.{procedures}
+use Rattle.rules.specs.Table.{decode, procedures}
 use Rattle.sweep.proofs.EndLaws.{Entered, entered-none, entered-all, body-swept, body-length}
 use Rattle.sweep.proofs.BodyLaws.{body-lower}
 use Rattle.sweep.proofs.bodies.sweep_bodies.Statement.{statement}
@@ -53,7 +53,7 @@ returns : tie.Need-returns Inv-loop μ-loop
 returns c =
     let inv = c .before .loop .inv in
     let start = c .before .before .before .before in
-    let all : c .before .loop .p ≡ procedures (start .args .table .now) = omega (arith, start .pre .0 .procedures-read) in
+    let all : c .before .loop .p ≡ procedures (decode (start .args .table .now)) = omega (arith, start .pre .0 .procedures-read) in
     (entered-all _ _ _ (simp all at (inv .2)), inv .1, inv .3)
 
 pub sweep-bodies-spec : {M : Type 1} → statement M

@@ -2,7 +2,7 @@
 use mathlib.Core.Path.{_≡_}
 use Prim.Native.Nat.{_≤_, _-_, min}
 use native.Mathlib.Omega.{arith}
-use Rattle.rules.specs.Table.{procedures}
+use Rattle.rules.specs.Table.{decode, procedures}
 use Rattle.visit.specs.Fields.{factsPlane}
 use Rattle.visit.specs.Least.{leastBelow}
 use Rattle.visit.proofs.LeastLaws.{least-more, least-high}
@@ -11,7 +11,7 @@ use Rattle.sweep.proofs.bodies.unflagged.Statement.{statement}
 use Rattle.sweep.proofs.bodies.unflagged.Tie as tie
 
 abbrev Inv-loop : tie.InvT-loop
-Inv-loop table header planes rule count best₀ p₀ best p = (p ≤ count) × (best ≡ min rule (leastBelow (effectCode table (factsPlane planes)) p))
+Inv-loop table header planes rule count best₀ p₀ best p = (p ≤ count) × (best ≡ min rule (leastBelow (effectCode (decode table) (factsPlane planes)) p))
 
 abbrev μ-loop : tie.MeasureT-loop
 μ-loop table header planes rule count best₀ p₀ best p = count - p
@@ -26,7 +26,7 @@ flag-body-requires c κs =
     let at-loop = c .before in
     let start = at-loop .before .before .before in
     let given = start .pre in
-    let high = least-high (effectCode (start .args .table .now) (factsPlane (start .args .planes .now))) (at-loop .loop .p) in
+    let high = least-high (effectCode (decode (start .args .table .now)) (factsPlane (start .args .planes .now))) (at-loop .loop .p) in
     (given .0, omega arith, given .1, omega (arith, at-loop .loop .inv .1, high))
 
 add-p : tie.Need-add-p Inv-loop μ-loop
@@ -39,7 +39,7 @@ loop-again : tie.Need-loop-again Inv-loop μ-loop
 loop-again c =
     let at-loop = c .before .before in
     let args = at-loop .before .before .before .args in
-    let more = least-more (effectCode (args .table .now) (factsPlane (args .planes .now))) (at-loop .loop .p) in
+    let more = least-more (effectCode (decode (args .table .now)) (factsPlane (args .planes .now))) (at-loop .loop .p) in
     (omega arith, omega (arith, at-loop .loop .inv .1, c .flag-body .ensures, more))
 
 returns : tie.Need-returns Inv-loop μ-loop
@@ -47,7 +47,7 @@ returns c =
     let loop = c .before .loop in
     let start = c .before .before .before .before in
     let given = start .pre in
-    let all : loop .p ≡ procedures (start .args .table .now) = omega (arith, given .0 .sized .procedures-read) in
+    let all : loop .p ≡ procedures (decode (start .args .table .now)) = omega (arith, given .0 .sized .procedures-read) in
     rw (← all) (loop .inv .1)
 
 pub unflagged-spec : {M : Type 1} → statement M

@@ -7,9 +7,10 @@ use Rattle.sweep.proofs.NodeLaws.{Blocking, blocking-none, blocking-sto
 use Rattle.sweep.proofs.NodeLaws.{block-is, block-stops, block-more}
 use Rattle.sweep.proofs.nodes.sweep_blocks.Statement.{statement}
 use Rattle.sweep.proofs.nodes.sweep_blocks.Tie as tie
+use Rattle.rules.specs.Table.{decode}
 
 abbrev Inv-loop : tie.InvT-loop
-Inv-loop table header planes₀ count rule₀ n₀ p₀ planes rule n p = Blocking table planes n p rule
+Inv-loop table header planes₀ count rule₀ n₀ p₀ planes rule n p = Blocking (decode table) planes n p rule
 
 abbrev μ-loop : tie.MeasureT-loop
 μ-loop table header planes₀ count rule₀ n₀ p₀ planes rule n p = count - p

@@ -6,9 +6,10 @@ use Rattle.sweep.specs.Nodes.{Going}
 use Rattle.sweep.proofs.NodeLaws.{going-none, going-more}
 use Rattle.sweep.proofs.nodes.sweep_quickly.Statement.{statement}
 use Rattle.sweep.proofs.nodes.sweep_quickly.Tie as tie
+use Rattle.rules.specs.Table.{decode}
 
 abbrev Inv-loop : tie.InvT-loop
-Inv-loop table planes₀ first end start header rule₀ n₀ planes rule n = Going table first end start planes₀ planes n rule
+Inv-loop table planes₀ first end start header rule₀ n₀ planes rule n = Going (decode table) first end start planes₀ planes n rule
 
 abbrev μ-loop : tie.MeasureT-loop
 μ-loop table planes₀ first end start header rule₀ n₀ planes rule n = end - n

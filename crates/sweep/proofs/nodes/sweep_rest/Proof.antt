@@ -8,10 +8,11 @@ use Rattle.visit.proofs.PlaneLaws.{used-length, length-put-used}
 use Rattle.sweep.proofs.NodeLaws.{Resting, resting-none, resting-more, resting-ends}
 use Rattle.sweep.proofs.nodes.sweep_rest.Statement.{statement}
 use Rattle.sweep.proofs.nodes.sweep_rest.Tie as tie
+use Rattle.rules.specs.Table.{decode}
 
 abbrev Inv-loop : tie.InvT-loop
 Inv-loop table header planes₀ blocked count limit best₀ reached₀ planes best reached =
-    Resting table planes best reached
+    Resting (decode table) planes best reached
 
 abbrev μ-loop : tie.MeasureT-loop
 μ-loop table header planes₀ blocked count limit best₀ reached₀ planes best reached = count - reached .node

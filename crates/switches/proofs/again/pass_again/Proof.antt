@@ -9,7 +9,7 @@ use Rattle.leaves.proofs.PassLaws.{none-passed, passed-none, passed-all}
 use Rattle.loops.proofs.BuiltLaws.{no-leave-at}
 use Rattle.process.proofs.ReadLaws.{read-formed, read-built, header-nodes}
 use Rattle.rules.specs.Judgement.{counted}
-use Rattle.rules.specs.Table.{nodes}
+use Rattle.rules.specs.Table.{decode, nodes}
 use Rattle.table.proofs.BitLaws.{bit-zero}
 use Rattle.visit.specs.Fields.{planeWords}
 use Rattle.switches.specs.Again.{Beside}
@@ -21,8 +21,8 @@ use Rattle.switches.proofs.again.pass_again.Tie as tie
 
 abbrev Inv-loop : tie.InvT-loop
 Inv-loop table header planes₀ rule count reached₀ planes reached =
-    (reached .node ≤ nodes table) × Beside table planes
-    × PassedTo table (counted table) rule (workPlanes planes₀) (reached .node) (workPlanes planes) (reached .rule)
+    (reached .node ≤ nodes (decode table)) × Beside (decode table) planes
+    × PassedTo (decode table) (counted (decode table)) rule (workPlanes planes₀) (reached .node) (workPlanes planes) (reached .rule)
 
 abbrev μ-loop : tie.MeasureT-loop
 μ-loop table header planes₀ rule count reached₀ planes reached = count - reached .node
@@ -39,7 +39,7 @@ returns c =
     let formed = read-formed read in
     let none = sym (c .before .has-leave .ensures) ∙ not-true _ (c .if1 .taken) in (
       beside,
-      none-passed table formed (counted table) (uncounted-leaves table (no-leave-at table formed none)) _ high (workPlanes planes)
+      none-passed (decode table) formed (counted (decode table)) (uncounted-leaves (decode table) (no-leave-at (decode table) formed none)) _ high (workPlanes planes)
           (work-length planes (beside .size)) (λ k l. rw (start .pre .1 .1) (bit-zero planeWords k)),
     )
 
@@ -74,7 +74,7 @@ returns-2 : tie.Need-returns-2 Inv-loop μ-loop
 returns-2 c =
     let start = c .before .before .before .before .before .before .before in
     let loop = c .before .before .loop in
-    let all : loop .reached .node ≡ nodes (start .args .table .now) =
+    let all : loop .reached .node ≡ nodes (decode (start .args .table .now)) =
     omega (arith, loop .inv .0, header-nodes (start .pre .0 .0)) in
     (loop .inv .1, passed-all _ _ _ _ (loop .inv .2) all)
 

@@ -7,6 +7,7 @@ use Rattle.switches.proofs.FourLaws.{work-length, work-put-work, beside
 use borrow.Author.Needs.{needs}
 use Rattle.switches.proofs.again.pass_stretch.Statement.{statement}
 use Rattle.switches.proofs.again.pass_stretch.Tie as tie
+use Rattle.rules.specs.Table.{decode}
 
 -- where the next node that is set aside is found
 abbrev start : tie.After-stretch-end → tie.Start
@@ -34,7 +35,7 @@ returns c =
     let table = begun .args .table .now in
     let planes = begun .args .planes .now in
     let formed = read-formed read in
-    let (sort, dead) = stretch-dead table formed planes beside (header-nodes read) (found .stretch-end .ensures) low (c .if1 .taken) in (
+    let (sort, dead) = stretch-dead (decode table) formed planes beside (header-nodes read) (found .stretch-end .ensures) low (c .if1 .taken) in (
       record { more = omega arith; within = omega arith; low = high },
       beside,
       λ rule first so-far.
@@ -78,8 +79,8 @@ returns-2 c =
     let formed = read-formed read in
     let stretch = found .stretch-end .ensures in
     let all = header-nodes read in
-    let within = stretch-within table formed planes beside all stretch in
-    let counts = stretch-counts table formed planes beside all stretch in
+    let within = stretch-within (decode table) formed planes beside all stretch in
+    let counts = stretch-counts (decode table) formed planes beside all stretch in
     let words = passed .pass-nodes .last .1 .1 .0 in
     let nodes-passed = passed .pass-nodes .ensures in
     let many = nodes-passed .size in (

@@ -3,7 +3,7 @@ use mathlib.Core.Path.{_≡_, sym, _∙_}
 use Prim.Native.Nat.{_-_, _≤_}
 use native.Mathlib.Omega.{arith}
 use Rattle.process.proofs.ReadLaws.{read-formed, header-nodes}
-use Rattle.rules.specs.Table.{nodes}
+use Rattle.rules.specs.Table.{decode, nodes}
 use Rattle.switches.specs.Again.{Beside, VisitedTo}
 use Rattle.switches.specs.Aside.{workPlanes}
 use Rattle.switches.proofs.AgainLaws.{visited-none}
@@ -12,7 +12,7 @@ use Rattle.switches.proofs.again.visit_again.Tie as tie
 
 abbrev Inv-loop : tie.InvT-loop
 Inv-loop table header planes₀ count reached₀ planes reached =
-    (reached .node ≤ nodes table) × Beside table planes × VisitedTo table (reached .node) (workPlanes planes) (reached .rule)
+    (reached .node ≤ nodes (decode table)) × Beside (decode table) planes × VisitedTo (decode table) (reached .node) (workPlanes planes) (reached .rule)
 
 abbrev μ-loop : tie.MeasureT-loop
 μ-loop table header planes₀ count reached₀ planes reached = count - reached .node
@@ -43,7 +43,7 @@ returns : tie.Need-returns Inv-loop μ-loop
 returns c =
     let start = c .before .before .before .before .before in
     let loop = c .before .before .loop in
-    let all : loop .reached .node ≡ nodes (start .args .table .now) =
+    let all : loop .reached .node ≡ nodes (decode (start .args .table .now)) =
     omega (arith, loop .inv .0, header-nodes (start .pre .0)) in
     (loop .inv .1, rw all at (loop .inv .2))
 

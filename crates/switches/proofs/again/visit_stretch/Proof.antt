@@ -13,6 +13,7 @@ use Rattle.switches.proofs.FourLaws.{work-length, work-put-work, beside
 use borrow.Author.Needs.{needs}
 use Rattle.switches.proofs.again.visit_stretch.Statement.{statement}
 use Rattle.switches.proofs.again.visit_stretch.Tie as tie
+use Rattle.rules.specs.Table.{decode}
 
 -- where the next node that is set aside is found
 abbrev start : tie.After-stretch-end → tie.Start
@@ -37,7 +38,7 @@ low-rule : (found : tie.After-stretch-end) → start found .args .from .rule ≤
 low-rule found =
     let begun = start found in
     let table = begun .args .table .now in
-    omega (arith, begun .pre .3 .ruled .least, least-high (guardCode table (counted table)) (begun .args .from .node))
+    omega (arith, begun .pre .3 .ruled .least, least-high (guardCode (decode table) (counted (decode table))) (begun .args .from .node))
 
 returns : tie.Need-returns
 returns c =
@@ -48,7 +49,7 @@ returns c =
     let planes = begun .args .planes .now in
     let n = begun .args .from .node in
     let formed = read-formed read in
-    let (sort, dead) = stretch-dead table formed planes beside (header-nodes read) (found .stretch-end .ensures) low (c .if1 .taken) in (
+    let (sort, dead) = stretch-dead (decode table) formed planes beside (header-nodes read) (found .stretch-end .ensures) low (c .if1 .taken) in (
       record { more = omega arith; within = omega arith; low = low-rule found },
       beside,
       visited-past table formed n (omega (arith, formed .nodes-high)) sort dead (workPlanes planes) _ so-far,
@@ -92,8 +93,8 @@ returns-2 c =
     let filled = well-filled (read .well-formed) (read .headed) in
     let stretch = found .stretch-end .ensures in
     let all = header-nodes read in
-    let within = stretch-within table formed planes beside all stretch in
-    let counts = stretch-counts table formed planes beside all stretch in
+    let within = stretch-within (decode table) formed planes beside all stretch in
+    let counts = stretch-counts (decode table) formed planes beside all stretch in
     let words = swept .sweep-quickly .last .1 .0 in
     let quickly = swept .sweep-quickly .ensures in
     let many = quickly .going .size in

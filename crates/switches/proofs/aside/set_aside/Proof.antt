@@ -5,13 +5,13 @@ use Prim.Native.Nat.{ℕ, _+_, _-_, _≤_}
 use native.Mathlib.Omega.{arith}
 use lib.ListN.{length, length-replicate}
 use Rattle.process.proofs.ReadLaws.{read-formed, header-nodes}
-use Rattle.rules.specs.Table.{nodes}
+use Rattle.rules.specs.Table.{decode, nodes}
 use Rattle.switches.proofs.AsideLaws.{AsideTo, aside-none, aside-more, aside-all}
 use Rattle.switches.proofs.aside.set_aside.Statement.{statement}
 use Rattle.switches.proofs.aside.set_aside.Tie as tie
 
 abbrev Inv-loop : tie.InvT-loop
-Inv-loop table header aside₀ n₀ aside n = (n ≤ nodes table) × AsideTo table n aside
+Inv-loop table header aside₀ n₀ aside n = (n ≤ nodes (decode table)) × AsideTo (decode table) n aside
 
 abbrev μ-loop : tie.MeasureT-loop
 μ-loop table header aside₀ n₀ aside n = n

@@ -1,6 +1,6 @@
 -- `fields::body_is_statement` meets its contract: a body past the last node is no statement.
 use Rattle.table.proofs.ShapeLaws.{statement-past}
-use Rattle.rules.specs.Table.{nodes, body}
+use Rattle.rules.specs.Table.{decode, nodes, body}
 use native.Mathlib.Omega.{arith}
 use Prim.Native.Nat.{_≤_}
 use mathlib.Core.Path.{sym}
@@ -16,8 +16,8 @@ returns c =
     let args = c .before .before .before .before .args in
     let given = c .before .before .before .before .pre in
     let t = args .table .now in
-    let past : nodes t ≤ body t (args .p) = omega (arith, c .before .before .body .ensures, given .0 .nodes-read) in
-    sym (statement-past t (args .header) (given .0) (body t (args .p)) past)
+    let past : nodes (decode t) ≤ body (decode t) (args .p) = omega (arith, c .before .before .body .ensures, given .0 .nodes-read) in
+    sym (statement-past t (args .header) (given .0) (body (decode t) (args .p)) past)
 
 is-statement-requires : tie.Need-is-statement-requires
 is-statement-requires c κs = search needs

@@ -4,6 +4,7 @@ use borrow.Author.Tests.{not-true, not-false}
 use borrow.Author.Needs.{needs}
 use Rattle.table.proofs.fields.node_fits.Statement.{statement}
 use Rattle.table.proofs.fields.node_fits.Tie as tie
+use Rattle.rules.specs.Table.{decode}
 
 node-at-requires : tie.Need-node-at-requires
 node-at-requires c κs = search needs
@@ -21,7 +22,7 @@ returns : tie.Need-returns
 returns c =
     let args = c .before .before .before .before .before .before .args in
     simp (
-      fits-law (args .table .now) (args .n),
+      fits-law (decode (args .table .now)) (args .n),
       ← c .before .before .before .before .node-at .ensures,
       ← c .before .before .before .role .ensures,
       ← c .before .field-fits .ensures,
@@ -43,7 +44,7 @@ returns-2 c =
     let field-fits = past .before .field-fits in
     let args = past .before .before .before .before .before .before .args in
     simp (
-      fits-law (args .table .now) (args .n),
+      fits-law (decode (args .table .now)) (args .n),
       ← past .before .before .before .before .node-at .ensures,
       ← past .before .before .before .role .ensures,
       ← field-fits .ensures,
@@ -69,7 +70,7 @@ returns-3 c =
     let field-fits = past .before .before .field-fits in
     let args = past .before .before .before .before .before .before .before .args in
     simp (
-      fits-law (args .table .now) (args .n),
+      fits-law (decode (args .table .now)) (args .n),
       ← past .before .before .before .before .before .node-at .ensures,
       ← past .before .before .before .before .role .ensures,
       ← field-fits .ensures,

@@ -6,7 +6,7 @@ use Prim.Native.Nat.{_+_, _*_}
 use Rattle.table.proofs.ShapeLaws.{LengthTest, Bounded, header-law, long, bounded}
 use Rattle.table.proofs.ShapeLaws.{refused2, refused3, refused4, answered5, read-variables, read-procedures, read-nodes}
 use Rattle.rules.specs.WellFormed.{headerFits}
-use Rattle.rules.specs.Table.{procedures, nodes}
+use Rattle.rules.specs.Table.{decode, procedures, nodes}
 use borrow.Author.Tests.{not-true, not-false}
 use lib.ListN.{length}
 use native.Mathlib.Omega.{arith}
@@ -38,7 +38,7 @@ counts c =
 
 length4 : (c : tie.Else2)
     → 4 * (2 + c .before .before .before .header .result .procedures + c .before .before .before .header .result .nodes)
-    ≡ 4 * (2 + procedures (start (c .before) .args .table .now) + nodes (start (c .before) .args .table .now))
+    ≡ 4 * (2 + procedures (decode (start (c .before) .args .table .now)) + nodes (decode (start (c .before) .args .table .now)))
 length4 c =
     let header = c .before .before .before .header in
     let t = start (c .before) .args .table .now in

@@ -1,6 +1,7 @@
 -- `words::body` meets its contract: the word divided as the definition says.
-use Rattle.rules.specs.Table.{body, procedureWord}
+use Rattle.rules.specs.Table.{decode, procedures, body, procedureWord}
 use borrow.Author.Needs.{needs}
+use borrow.Author.Tests.{lt-ltb}
 use Rattle.table.proofs.words.body.Statement.{statement}
 use Rattle.table.proofs.words.body.Tie as tie
 
@@ -14,8 +15,8 @@ cast-result : tie.Need-cast-result
 cast-result c = search needs
 
 returns : tie.Need-returns
-unfolding body procedureWord
-returns c = simp (c .word .ensures)
+unfolding decode procedures body procedureWord
+returns c = simp (c .word .ensures, lt-ltb _ _ (c .before .before .pre .1))
 
 pub body-spec : {M : Type 1} → statement M
 body-spec = tie.close (tie.spec add-word word-requires cast-result returns)

@@ -1,6 +1,6 @@
 -- `words::header` meets its contract: the counts are divided out of word 0 as the definitions say.
 use Rattle.table.specs.Header.{headerOf}
-use Rattle.rules.specs.Table.{variables, procedures, nodes}
+use Rattle.rules.specs.Table.{decode, variables, procedures, nodes}
 use borrow.Author.Needs.{needs}
 use Rattle.table.proofs.words.header.Statement.{statement}
 use Rattle.table.proofs.words.header.Tie as tie
@@ -18,7 +18,7 @@ cast-t11 : tie.Need-cast-t11
 cast-t11 c = search needs
 
 returns : tie.Need-returns
-unfolding headerOf variables procedures nodes
+unfolding headerOf decode variables procedures nodes
 returns c = simp (c .word .ensures)
 
 pub header-spec : {M : Type 1} → statement M

@@ -1,7 +1,7 @@
 -- `words::kind_at` meets its contract.
 use mathlib.Core.Path.{_∙_}
 use Rattle.table.specs.Header.{headerOf}
-use Rattle.rules.specs.Table.{nodeAt}
+use Rattle.rules.specs.Table.{decode, procedures, nodeAt}
 use borrow.Author.Needs.{needs}
 use Rattle.table.proofs.words.kind_at.Statement.{statement}
 use Rattle.table.proofs.words.kind_at.Tie as tie
@@ -19,7 +19,7 @@ kind-of-requires : tie.Need-kind-of-requires
 kind-of-requires c κs = search needs
 
 returns : tie.Need-returns
-unfolding nodeAt headerOf
+unfolding decode procedures nodeAt headerOf
 returns c = c .kind-of .ensures ∙ simp (c .before .word .ensures, c .before .before .before .before .pre .0)
 
 pub kind-at-spec : {M : Type 1} → statement M

@@ -1,7 +1,7 @@
 -- `words::node_at` meets its contract: the fields are divided out of the word as the definition says.
 use mathlib.Core.Path.{_∙_}
 use Rattle.table.specs.Header.{headerOf}
-use Rattle.rules.specs.Table.{nodeAt}
+use Rattle.rules.specs.Table.{decode, procedures, nodeAt}
 use borrow.Author.Needs.{needs}
 use Rattle.table.proofs.words.node_at.Statement.{statement}
 use Rattle.table.proofs.words.node_at.Tie as tie
@@ -19,7 +19,7 @@ unpacked-requires : tie.Need-unpacked-requires
 unpacked-requires c κs = search needs
 
 returns : tie.Need-returns
-unfolding nodeAt headerOf
+unfolding decode procedures nodeAt headerOf
 returns c = c .unpacked .ensures ∙ simp (c .before .word .ensures, c .before .before .before .before .pre .0)
 
 pub node-at-spec : {M : Type 1} → statement M

@@ -1,5 +1,5 @@
 -- `words::packed_at` meets its contract: there is a node n, so the test holds.
-use Rattle.rules.specs.Table.{nodeAt}
+use Rattle.rules.specs.Table.{decode, procedures, nodeAt}
 use Rattle.table.specs.Header.{headerOf}
 use native.Mathlib.Omega.{arith}
 use borrow.Author.Needs.{needs}
@@ -16,7 +16,7 @@ word-requires : tie.Need-word-requires
 word-requires c κs = search needs
 
 returns : tie.Need-returns
-unfolding nodeAt headerOf
+unfolding decode procedures nodeAt headerOf
 returns c = simp (c .word .ensures, c .before .before .before .before .before .pre .0)
 
 cast-result : tie.Need-cast-result
