@@ -1,25 +1,24 @@
 -- The inner statements of a node: those of its parts that may hold a call are among them, and only four kinds have any or call.
-use mathlib.Core.Bool.{Bool, true, false, _&&_}
+use mathlib.Core.Bool.{true, false, _&&_}
 use mathlib.Core.List.{List, [], _∷_}
 use mathlib.Core.Logic.{⊎-elim}
 use mathlib.Core.Path.{_≡_, refl, sym, _∙_}
 use Prim.Native.Nat.{ℕ, _≤_}
 use native.Mathlib.Decide.{decLt}
 use native.Mathlib.Omega.{arith}
-use lib.Dec.{leb, ltb}
+use lib.Dec.{leb}
 use borrow.Author.Tests.{leb-true, le-leb}
 use Rattle.rules.specs.declared.Node.{Node}
-use Rattle.rules.specs.Table.{Program, variables, nodeAt, statementOf, expressionAt, statementAt}
+use Rattle.rules.specs.Table.{Program, nodeAt, statementOf, expressionAt, statementAt}
 use Rattle.rules.specs.Table.{Expression, constant, variable, ownNumber, processCount, door, slot, operation}
 use Rattle.rules.specs.Table.{Statement, nothing, assign, sequence, branch, loop, call, latch, collective, leave}
-use Rattle.rules.specs.Table.{Collective, barrier, broadcast, exchange}
-use Rattle.rules.specs.WellFormed.{isExpression, expressionPart, statementPart, partsAt, occurrences}
-use Rattle.rules.specs.WellFormed.{expressionFits, collectiveFits, statementFits, nodeFits}
-use Rattle.rules.specs.WellFormed.{expressionParts, collectiveParts, statementParts}
+use Rattle.rules.specs.Table.{barrier, broadcast, exchange, expressionOperands, statementOperands}
+use Rattle.rules.specs.WellFormed.{isExpression, expressionPart, partsAt, occurrences}
+use Rattle.rules.specs.WellFormed.{expressionFits, statementFits, nodeFits, expressionParts, statementParts}
 use Rattle.rules.proofs.AnswerLaws.{both-left, both-right}
 use Rattle.rules.proofs.ChoiceLaws.{bool-cases}
 use Rattle.rules.proofs.KindLaws.{by-kind}
-use Rattle.rules.proofs.ValueLaws.{expression-part-sort, area-fields}
+use Rattle.rules.proofs.PartLaws.{expression-part-sort, EachFits, expression-fit, statement-fit}
 use Rattle.table.proofs.TestLaws.{never}
 use Rattle.table.proofs.UseLaws.{occurrences-append}
 use Rattle.calls.specs.Walk.{innerStatements, mayCall, callers, callsBelow}
@@ -57,12 +56,6 @@ no-caller program n e s =
 
 -- and a part that may hold a call is one of them
 module _ (program : Program) (n k : ℕ) (s : mayCall program k ≡ true) where
-  abbrev E : ℕ → Bool
-  E = expressionPart program n
-
-  abbrev S : ℕ → Bool
-  S = statementPart program n
-
   past : (a : ℕ) (xs : List ℕ) → expressionPart program n a ≡ true → In k (a ∷ xs) → In k xs
   past a xs e h =
       ⊎-elim
@@ -70,37 +63,28 @@ module _ (program : Program) (n k : ℕ) (s : mayCall program k ≡ true) where
       (λ (rest : In k xs). rest)
       (in-cases k a xs h)
 
-  no-part : (e : Expression) → expressionFits program n e ≡ true → In k (expressionParts e) → In k []
-  unfolding expressionFits expressionParts
+  no-part : (e : Expression) → EachFits program n (expressionOperands e) → In k (expressionParts e) → In k []
+  unfolding expressionParts
   no-part (constant v) fits h = h
   no-part (variable a) fits h = h
   no-part ownNumber fits h = h
   no-part processCount fits h = h
-  no-part (door a) fits h = past a [] fits h
-  no-part (slot a r) fits h = past a [] (area-fields program n a r fits .0) h
-  no-part (operation o a b) fits h =
-      past b [] (both-right (E a) (E b) fits) (past a (b ∷ []) (both-left (E a) (E b) fits) h)
+  no-part (door a) fits h = past a [] (fits .0) h
+  no-part (slot a r) fits h = past a [] (fits .0) h
+  no-part (operation o a b) fits h = past b [] (fits .1 .0) (past a (b ∷ []) (fits .0) h)
 
-  no-meeting : (m : Collective) → collectiveFits program n m ≡ true → In k (collectiveParts m) → In k []
-  unfolding collectiveFits collectiveParts
-  no-meeting barrier fits h = h
-  no-meeting (broadcast a b c) fits h =
-      let v = ltb a (variables program) in
-      past c [] (both-right (v && E b) (E c) fits) (past b (c ∷ []) (both-right v (E b) (both-left (v && E b) (E c) fits)) h)
-  no-meeting (exchange a r) fits h = past a [] (area-fields program n a r fits .0) h
-
-  part-inner : (m : Statement) → statementFits program n m ≡ true → In k (statementParts m) → In k (innerStatements m)
-  unfolding statementFits statementParts innerStatements
+  part-inner : (m : Statement) → EachFits program n (statementOperands m) → In k (statementParts m) → In k (innerStatements m)
+  unfolding statementParts innerStatements
   part-inner nothing fits h = h
-  part-inner (assign a b) fits h = past b [] (both-right (ltb a (variables program)) (E b) fits) h
+  part-inner (assign a b) fits h = past b [] (fits .1 .0) h
   part-inner (sequence a b) fits h = h
-  part-inner (branch a b c) fits h =
-      past a (b ∷ c ∷ []) (both-left (E a) (S b) (both-left (E a && S b) (S c) fits)) h
-  part-inner (loop a b) fits h = past a (b ∷ []) (both-left (E a) (S b) fits) h
+  part-inner (branch a b c) fits h = past a (b ∷ c ∷ []) (fits .0) h
+  part-inner (loop a b) fits h = past a (b ∷ []) (fits .0) h
   part-inner (call q) fits h = h
-  part-inner (latch a b) fits h =
-      past b [] (both-right (E a) (E b) fits) (past a (b ∷ []) (both-left (E a) (E b) fits) h)
-  part-inner (collective m) fits h = no-meeting m fits h
+  part-inner (latch a b) fits h = past b [] (fits .1 .0) (past a (b ∷ []) (fits .0) h)
+  part-inner (collective barrier) fits h = h
+  part-inner (collective (broadcast a b c)) fits h = past c [] (fits .1 .1 .0) (past b (c ∷ []) (fits .1 .0) h)
+  part-inner (collective (exchange a r)) fits h = past a [] (fits .0) h
   part-inner leave fits h = h
 
   pub in-inner : nodeFits program n ≡ true → In k (partsAt program n) → In k (innerStatements (statementAt program n))
@@ -111,9 +95,10 @@ module _ (program : Program) (n k : ℕ) (s : mayCall program k ≡ true) where
       let ours = expressionParts (expressionAt program n) in
       let rest = statementParts (statementAt program n) in
       elim (decLt 0 (occurrences k ours)) [
-        | yes l ↦ nowhere k (no-part (expressionAt program n) (both-left left right fits) l)
+        | yes l ↦ nowhere k (no-part (expressionAt program n) (expression-fit program n (expressionAt program n) (both-left left right fits)) l)
         | no m ↦
-            part-inner (statementAt program n) (both-right left right fits) (omega (arith, occurrences-append k ours rest))
+            part-inner (statementAt program n) (statement-fit program n (statementAt program n) (both-right left right fits))
+            (omega (arith, occurrences-append k ours rest))
       ]
 
 -- those of a list that may hold a call

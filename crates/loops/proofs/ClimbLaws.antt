@@ -12,7 +12,8 @@ use Rattle.rules.proofs.ChoiceLaws.{bool-cases}
 use Rattle.rules.proofs.Formed.{Formed}
 use Rattle.rules.proofs.KindLaws.{statement-here}
 use Rattle.rules.proofs.AnywhereLaws.{In}
-use Rattle.rules.proofs.LoopLaws.{open-part, body-part, part-low, named-below, nearest-part, nearest-body, nearest-none}
+use Rattle.rules.proofs.LoopLaws.{open-part, body-part, named-below, nearest-part, nearest-body, nearest-none}
+use Rattle.rules.proofs.PartLaws.{part-low}
 use Rattle.loops.specs.Built.{hasBody, hasPart}
 use Rattle.loops.proofs.KindTests.{part-of, no-part, body-of, no-body}
 

@@ -14,7 +14,7 @@ use Rattle.rules.specs.WellFormed.{isStatement, expressionPart}
 use Rattle.rules.proofs.Formed.{Formed, formed, exact}
 use Rattle.rules.proofs.KindLaws.{sequence-of, loop-of, statement-here}
 use Rattle.rules.proofs.KindLaws.{assign-fields, branch-fields, loop-fields, call-field, latch-fields}
-use Rattle.rules.proofs.ValueLaws.{expression-part-below, expression-part-sort}
+use Rattle.rules.proofs.PartLaws.{expression-part-below, expression-part-sort}
 use Rattle.table.specs.declared.Header.{Header}
 use Rattle.process.specs.Given.{Read, Given, Stacked, Part, Topped, Turn}
 

@@ -12,12 +12,8 @@ use lib.ListN.{length, getD, List·getD-eq-default}
 use borrow.Author.Tests.{eq-eqb, eqb-true}
 use Rattle.rules.specs.Below.{below, atNode}
 use Rattle.rules.specs.WellFormed.{someOf, anywhere}
+pub use Rattle.rules.specs.WellFormed.{Occurs as In}
 use Rattle.rules.proofs.BelowLaws.{below-length, below-at}
-
--- a number that stands in a list
-abbrev pub In : ℕ → List ℕ → Type 0
-In a [] = ⊥
-In a (x ∷ xs) = (a ≡ x) ⊎ In a xs
 
 pub either-right : (s t : Bool) → t ≡ true → (s || t) ≡ true
 either-right true t e = refl

@@ -1,24 +1,22 @@
 -- The stack never overflows after a start: each of its entries has a home, so question 24 refuses no step of a run. And a leave
 -- has its while below it.
 use mathlib.Core.Bool.{Bool, true, false, cond, not, and-false}
-use mathlib.Core.List.{List, _∷_, _++_, append-assoc}
+use mathlib.Core.List.{List}
 use mathlib.Core.Logic.{inl, inr, ⊎-elim}
 use mathlib.Core.Path.{_≡_, refl, sym, _∙_, ap, subst}
 use Prim.Native.Nat.{ℕ, zero, suc, _+_, _-_, _≤_, _<_}
 use native.Mathlib.Decide.{decLt}
 use native.Mathlib.Omega.{arith}
 use lib.Dec.{ltb, eqb}
-use lib.ListN.{length, set, take, drop, replicate, length-set, length-append, length-take, length-drop, length-replicate}
-use lib.Seq.{getD-at, getD-append-add}
+use lib.ListN.{length, set, length-set}
 use borrow.Author.Tests.{eqb-true, eq-eqb}
 use Rattle.rules.specs.Collective.{received}
 use Rattle.rules.specs.Evaluation.{Environment, value}
 use Rattle.rules.specs.Judgement.{live}
-use Rattle.rules.specs.Process.{variablePlaces, gatheredPlaces, latchPlaces, mostProcesses, latchesAt, depthAt, stackAt, stackPlaces, processWords}
+use Rattle.rules.specs.Process.{latchPlaces, mostProcesses, latchesAt, stackPlaces, processWords}
 use Rattle.rules.specs.Process.{processAt, environment, depth, top, popped, replaced, pushed, advanced, needsPlace}
-use Rattle.rules.specs.Start.{startSize, startProcess}
 use Rattle.rules.specs.Step.{leaveFits, placeLacked}
-use Rattle.rules.specs.Table.{Program, variables, procedures, nodes, body, mainBody, statementAt, isLeave}
+use Rattle.rules.specs.Table.{Program, procedures, nodes, body, mainBody, statementAt, isLeave}
 use Rattle.rules.specs.Table.{Statement, nothing, assign, sequence, branch, loop, call, latch, collective, leave, Collective}
 use Rattle.rules.specs.WellFormed.{isStatement, openParts, nearestLoop}
 use Rattle.rules.proofs.ChoiceLaws.{bool-cases, all-false}
@@ -283,9 +281,7 @@ place-free program f state roll count p sized placed =
     (λ (e : eqb (depth words) stackPlaces ≡ false). rw (e, and-false))
     (bool-cases (eqb (depth words) stackPlaces))
 
--- the words that a start lays out
-
--- one entry, the main body: all bodies together take as many places as there are nodes
+-- what a start lays out is one entry, the main body: all bodies together take as many places as there are nodes
 pub placed-one : (program : Program) → Formed program → (words : List ℕ) → depth words ≡ 1 → entry words 0 ≡ mainBody program
     → Placed program words
 unfolding mainBody
@@ -311,39 +307,3 @@ placed-one program f words d e =
           inside-same program (entry words i) (body program last) (stackOf words i) (stackOf words i) (ap (entry words) z ∙ e) refl
           (λ m. absurd (omega (arith, nearest-procedure program f last below)));
     }
-
-module _ (program : Program) (f : Formed program) (given : List ℕ) (sized : length given ≡ startSize program) where
-  -- the words of a start below the depth
-  low : List ℕ
-  low =
-      (((take (variables program) given ++ replicate (variablePlaces - variables program) 0) ++ replicate gatheredPlaces 0)
-      ++ drop (variables program) given)
-      ++ replicate latchPlaces 0
-
-  low-length : length low ≡ depthAt
-  unfolding low startSize
-  low-length =
-      let high = f .variables-high in
-      simp (length-append, length-take, length-drop, length-replicate) (omega arith)
-
-  start-split : startProcess program given ≡ low ++ (1 ∷ mainBody program ∷ replicate (stackPlaces - 1) 0)
-  unfolding startProcess low
-  start-split = simp append-assoc
-
-  pub start-length : length (startProcess program given) ≡ processWords
-  start-length =
-      rw start-split
-      (length-append low (1 ∷ mainBody program ∷ replicate (stackPlaces - 1) 0)
-      ∙ omega (arith, low-length, length-replicate {A = ℕ} (stackPlaces - 1) 0))
-
-  pub start-depth : depth (startProcess program given) ≡ 1
-  unfolding depth
-  start-depth = rw start-split (getD-at low 1 (mainBody program ∷ replicate (stackPlaces - 1) 0) 0 depthAt low-length)
-
-  pub start-entry : entry (startProcess program given) 0 ≡ mainBody program
-  start-entry =
-      let e : stackAt + 0 ≡ length low + 1 = omega (arith, low-length) in
-      rw (start-split, e) (getD-append-add low (1 ∷ mainBody program ∷ replicate (stackPlaces - 1) 0) 1 0)
-
-  pub placed-start : Placed program (startProcess program given)
-  placed-start = placed-one program f (startProcess program given) start-depth start-entry

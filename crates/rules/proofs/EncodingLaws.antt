@@ -1,6 +1,6 @@
 -- What is written is read; and what the flags do not touch.
 use mathlib.Core.Bool.{Bool, true, false, cond, not, _&&_}
-use mathlib.Core.List.{List, _∷_, _++_}
+use mathlib.Core.List.{List, _++_}
 use mathlib.Core.Logic.{⊎-elim}
 use mathlib.Core.Path.{_≡_, refl, sym, _∙_, ap, fun-ext}
 use Prim.Native.Nat.{ℕ, zero, suc, _+_, _-_, _*_, _/_, _%_, _^_, _≤_, _<_}
@@ -15,12 +15,12 @@ use Rattle.rules.specs.declared.Node.{Node}
 use Rattle.rules.specs.declared.Verdict.the-variants.{Accepted}
 use Rattle.rules.specs.Choice.{firstFailing, allBelow}
 use Rattle.rules.specs.Encoding.{wordBytes, headerWord, flagBits, bodyWord, packed, wordOf, encode, Encodable, DecodeEncode, reflagged}
-use Rattle.rules.specs.Evaluation.{bit, value}
+use Rattle.rules.specs.Evaluation.{bit}
 use Rattle.rules.specs.Judgement.{fixing, deadIn, live, counted}
 use Rattle.rules.specs.Table.{Program, decode, wordAt, procedureWord, unpacked}
 use Rattle.rules.specs.Table.{variables, procedures, nodes, flagged, body, effectFlag, nodeAt, expressionAt, statementAt}
 use Rattle.rules.specs.Table.{Statement, nothing, assign, sequence, branch, loop, call, latch, collective, leave}
-use Rattle.rules.specs.WellFormed.{joined, isExpression, isStatement, kindKnown, partsAt, uses, inTree, loopAround, nearestLoop, wellFormed}
+use Rattle.rules.specs.WellFormed.{joined, isExpression, isStatement, kindKnown, partsAt, loopAround, nearestLoop, wellFormed}
 use Rattle.rules.proofs.AnswerLaws.{both-right}
 use Rattle.rules.proofs.AnywhereLaws.{either-cases}
 use Rattle.rules.proofs.Formed.{formed, word-past}
@@ -271,14 +271,6 @@ encodable table e =
 
 -- other flags leave all that is said of a program's shape and values as it is
 module _ (program : Program) (flags effects : ℕ → Bool) where
-  pub reflagged-uses : uses (reflagged program flags effects) ≡ uses program
-  unfolding reflagged uses partsAt expressionAt statementAt nodeAt nodes procedures body
-  reflagged-uses = refl
-
-  pub reflagged-tree : inTree (reflagged program flags effects) ≡ inTree program
-  unfolding reflagged partsAt expressionAt statementAt nodeAt
-  reflagged-tree = refl
-
   around-same : (n : ℕ) (s : Statement) → loopAround (reflagged program flags effects) n s ≡ loopAround program n s
   unfolding reflagged loopAround statementAt nodeAt
   around-same n nothing = refl
@@ -316,7 +308,3 @@ module _ (program : Program) (flags effects : ℕ → Bool) where
   pub reflagged-counted : counted (reflagged program flags effects) ≡ counted program
   unfolding reflagged counted statementAt nodeAt
   reflagged-counted = fun-ext (λ n. ap (λ l. cond (l n) (statementAt program n) nothing) reflagged-live)
-
-  pub reflagged-value : value (reflagged program flags effects) ≡ value program
-  unfolding reflagged value expressionAt nodeAt
-  reflagged-value = refl

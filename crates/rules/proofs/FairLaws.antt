@@ -17,7 +17,8 @@ use Rattle.rules.specs.Arrivals.{running, waiting, statusAt, endedRecord
 use Rattle.rules.specs.Collective.{releasedRoll}
 use Rattle.rules.specs.Run.{Team, afterTurn, afterTurns}
 use Rattle.rules.specs.Scheduling.{placeAfter, passedOver, someRuns, nextProcess, Served}
-use Rattle.rules.specs.Scheduling.{serving, chosen, chosenBy, chosenIn, RunsThrough, Occurs, Fair}
+use Rattle.rules.specs.Scheduling.{serving, chosen, chosenBy, chosenIn, RunsThrough, Fair}
+use Rattle.rules.specs.WellFormed.{Occurs}
 use Rattle.rules.specs.Start.{question20, question21}
 use Rattle.rules.specs.Step.{Outcome, processesIn, question22, completed, stepRunning, stepTaken}
 use Rattle.rules.specs.Step.{teamVerdict, stepVerdict, steppedBy, stepped}
@@ -157,7 +158,7 @@ module _ (table : List ℕ) (count p : ℕ) (l : p < count) where
 
       soon-taken : (k d : ℕ) → d < count → d < k → Away count last d p → k ≤ length (next ∷ list)
           → RunsThrough table p team (take k (next ∷ list)) → Occurs p (take k (next ∷ list))
-      unfolding RunsThrough Occurs
+      unfolding RunsThrough
       soon-taken zero d b n away few runs = absurd (omega arith)
       soon-taken (suc k) d b n away few runs =
           let low = passed-low (team .roll) count last d p l away (runs .0) in

@@ -8,10 +8,9 @@ use Rattle.rules.specs.Judgement.{singleOf, single, Fixing, fixed, unfix
 use Rattle.rules.specs.Switches.{FixedValue, FixedSingle}
 use Rattle.rules.specs.Table.{Program, decode, Operator, expressionAt}
 use Rattle.rules.specs.Table.{Expression, constant, variable, ownNumber, processCount, door, slot, operation}
-use Rattle.rules.specs.WellFormed.{expressionFits, expressionPart}
-use Rattle.rules.proofs.AnswerLaws.{both-left, both-right}
 use Rattle.rules.proofs.Formed.{Formed, formed}
-use Rattle.rules.proofs.ValueLaws.{value-at, single-at, fixing-at, expression-part-below}
+use Rattle.rules.proofs.PartLaws.{expression-part-below, expression-fits}
+use Rattle.rules.proofs.ValueLaws.{value-at, single-at, fixing-at}
 
 -- both parts of a fixed operation are fixed
 pub record Both (o : Operator) (x y : Fixing) (v : ℕ) : Type 0 where
@@ -32,19 +31,20 @@ module _ (program : Program) (well : Formed program) (P : ℕ → ℕ → Type 0
     (of-constant : (n v : ℕ) → expressionAt program n ≡ constant v → P n v)
     (of-operation : (n : ℕ) (o : Operator) (a b x y : ℕ) → expressionAt program n ≡ operation o a b → P a x → P b y
     → P n (applied o x y)) where
-  fixed-of : (n v : ℕ) (e : Expression) → expressionAt program n ≡ e → expressionFits program n e ≡ true
+  fixed-of : (n v : ℕ) (e : Expression) → expressionAt program n ≡ e
       → fixingOf (fixing program) e ≡ fixed v → ((a u : ℕ) → a < n → fixing program a ≡ fixed u → P a u) → P n v
-  unfolding expressionFits fixingOf
-  fixed-of n v (constant w) is h e inner = let same : w ≡ v = cc in of-constant n v (is ∙ ap constant same)
-  fixed-of n v (variable a) is h e inner = let z : _≡_ {A = ℕ} 0 1 = cc in absurd (omega arith)
-  fixed-of n v ownNumber is h e inner = let z : _≡_ {A = ℕ} 0 1 = cc in absurd (omega arith)
-  fixed-of n v processCount is h e inner = let z : _≡_ {A = ℕ} 0 1 = cc in absurd (omega arith)
-  fixed-of n v (door a) is h e inner = let z : _≡_ {A = ℕ} 0 1 = cc in absurd (omega arith)
-  fixed-of n v (slot a r) is h e inner = let z : _≡_ {A = ℕ} 0 1 = cc in absurd (omega arith)
-  fixed-of n v (operation o a b) is h e inner =
+  unfolding fixingOf
+  fixed-of n v (constant w) is e inner = let same : w ≡ v = cc in of-constant n v (is ∙ ap constant same)
+  fixed-of n v (variable a) is e inner = let z : _≡_ {A = ℕ} 0 1 = cc in absurd (omega arith)
+  fixed-of n v ownNumber is e inner = let z : _≡_ {A = ℕ} 0 1 = cc in absurd (omega arith)
+  fixed-of n v processCount is e inner = let z : _≡_ {A = ℕ} 0 1 = cc in absurd (omega arith)
+  fixed-of n v (door a) is e inner = let z : _≡_ {A = ℕ} 0 1 = cc in absurd (omega arith)
+  fixed-of n v (slot a r) is e inner = let z : _≡_ {A = ℕ} 0 1 = cc in absurd (omega arith)
+  fixed-of n v (operation o a b) is e inner =
       let parts = both-fixed o (fixing program a) (fixing program b) v e in
-      let left = expression-part-below program n a (both-left (expressionPart program n a) (expressionPart program n b) h) in
-      let right = expression-part-below program n b (both-right (expressionPart program n a) (expressionPart program n b) h) in
+      let fit = expression-fits program well n is in
+      let left = expression-part-below program n a (fit .0) in
+      let right = expression-part-below program n b (fit .1 .0) in
       subst (P n) (parts .is)
       (of-operation n o a b (parts .left) (parts .right) is (inner a (parts .left) left (parts .left-fixed))
       (inner b (parts .right) right (parts .right-fixed)))
@@ -52,7 +52,7 @@ module _ (program : Program) (well : Formed program) (P : ℕ → ℕ → Type 0
   fixed-below : (k n v : ℕ) → n < k → fixing program n ≡ fixed v → P n v
   fixed-below zero n v l e = absurd (omega arith)
   fixed-below (suc k) n v l e =
-      fixed-of n v (expressionAt program n) refl (well .expression-fits n) (sym (fixing-at program well n) ∙ e)
+      fixed-of n v (expressionAt program n) refl (sym (fixing-at program well n) ∙ e)
       (λ a u m t. fixed-below k a u (omega arith) t)
 
   by-fixed : (n v : ℕ) → fixing program n ≡ fixed v → P n v

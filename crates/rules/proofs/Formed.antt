@@ -109,42 +109,20 @@ passes table e =
       called = each-passed 12 _ _ (then-rest (question11 (decode table)) _ after10);
     }
 
--- the ranges of a header's counts
-record Header (program : Program) : Type 0 where
-  variables-low : leb 1 (variables program) ≡ true
-  variables-high : leb (variables program) 32 ≡ true
-  procedures-low : leb 1 (procedures program) ≡ true
-  procedures-high : leb (procedures program) 16 ≡ true
-  nodes-low : leb 1 (nodes program) ≡ true
-  nodes-high : leb (nodes program) 256 ≡ true
+-- what word 0 says
+pub record Header (table : List ℕ) : Type 0 where
+  pub first-edition : edition table ≡ 1
+  pub variables-low : 1 ≤ variables (decode table)
+  pub variables-high : variables (decode table) ≤ 32
+  pub procedures-low : 1 ≤ procedures (decode table)
+  pub procedures-high : procedures (decode table) ≤ 16
+  pub nodes-low : 1 ≤ nodes (decode table)
+  pub nodes-high : nodes (decode table) ≤ 256
+  pub rest-zero : wordAt table 0 % 2 ^ 8 ≡ 0
 
-header : (table : List ℕ) → headerFits table ≡ true → Header (decode table)
+pub header : (table : List ℕ) → headerFits table ≡ true → Header table
 unfolding headerFits
 header table e =
-    let one = eqb (edition table) 1 in
-    let v1 = leb 1 (variables (decode table)) in
-    let v2 = leb (variables (decode table)) 32 in
-    let p1 = leb 1 (procedures (decode table)) in
-    let p2 = leb (procedures (decode table)) 16 in
-    let n1 = leb 1 (nodes (decode table)) in
-    let n2 = leb (nodes (decode table)) 256 in
-    let seven = both-left (one && v1 && v2 && p1 && p2 && n1 && n2) (eqb (wordAt table 0 % 2 ^ 8) 0) e in
-    let six = both-left (one && v1 && v2 && p1 && p2 && n1) n2 seven in
-    let five = both-left (one && v1 && v2 && p1 && p2) n1 six in
-    let four = both-left (one && v1 && v2 && p1) p2 five in
-    let three = both-left (one && v1 && v2) p1 four in
-    record {
-      variables-low = both-right one v1 (both-left (one && v1) v2 three);
-      variables-high = both-right (one && v1) v2 three;
-      procedures-low = both-right (one && v1 && v2) p1 four;
-      procedures-high = both-right (one && v1 && v2 && p1) p2 five;
-      nodes-low = both-right (one && v1 && v2 && p1 && p2) n1 six;
-      nodes-high = both-right (one && v1 && v2 && p1 && p2 && n1) n2 seven;
-    }
-
-pub header-word : (table : List ℕ) → headerFits table ≡ true → (edition table ≡ 1) × (wordAt table 0 % 2 ^ 8 ≡ 0)
-unfolding headerFits
-header-word table e =
     let one = eqb (edition table) 1 in
     let v1 = leb 1 (variables (decode table)) in
     let v2 = leb (variables (decode table)) 32 in
@@ -158,22 +136,31 @@ header-word table e =
     let five = both-left (one && v1 && v2 && p1 && p2) n1 six in
     let four = both-left (one && v1 && v2 && p1) p2 five in
     let three = both-left (one && v1 && v2) p1 four in
-    let first = both-left one v1 (both-left (one && v1) v2 three) in
-    (eqb-true _ _ first, eqb-true _ _ (both-right (one && v1 && v2 && p1 && p2 && n1 && n2) low e))
+    let two = both-left (one && v1) v2 three in
+    record {
+      first-edition = eqb-true _ _ (both-left one v1 two);
+      variables-low = leb-true _ _ (both-right one v1 two);
+      variables-high = leb-true _ _ (both-right (one && v1) v2 three);
+      procedures-low = leb-true _ _ (both-right (one && v1 && v2) p1 four);
+      procedures-high = leb-true _ _ (both-right (one && v1 && v2 && p1) p2 five);
+      nodes-low = leb-true _ _ (both-right (one && v1 && v2 && p1 && p2) n1 six);
+      nodes-high = leb-true _ _ (both-right (one && v1 && v2 && p1 && p2 && n1) n2 seven);
+      rest-zero = eqb-true _ _ (both-right (one && v1 && v2 && p1 && p2 && n1 && n2) low e);
+    }
 
 pub built : (table : List ℕ) → wellBuilt table ≡ Accepted → Formed (decode table)
 unfolding procedureFits nodeFits usedOnce expressionFits statementFits calledBelow
 built table e =
     let q : Passes table = passes table e in
-    let counts : Header (decode table) = header table (q .header) in
+    let counts : Header table = header table (q .header) in
     let past : (n : ℕ) → (n < nodes (decode table) → ⊥) → nodes (decode table) ≤ n = λ n m. omega arith in
     record {
-      variables-low = leb-true 1 (variables (decode table)) (counts .variables-low);
-      variables-high = leb-true (variables (decode table)) 32 (counts .variables-high);
-      procedures-low = leb-true 1 (procedures (decode table)) (counts .procedures-low);
-      procedures-high = leb-true (procedures (decode table)) 16 (counts .procedures-high);
-      nodes-low = leb-true 1 (nodes (decode table)) (counts .nodes-low);
-      nodes-high = leb-true (nodes (decode table)) 256 (counts .nodes-high);
+      variables-low = counts .variables-low;
+      variables-high = counts .variables-high;
+      procedures-low = counts .procedures-low;
+      procedures-high = counts .procedures-high;
+      nodes-low = counts .nodes-low;
+      nodes-high = counts .nodes-high;
       past = node-past table (q .sized);
       body-below = λ p l.
           ltb-true (body (decode table) p) (nodes (decode table))

@@ -21,6 +21,7 @@ use Rattle.rules.proofs.Formed.{Formed, formed}
 use Rattle.rules.proofs.Judged.{judged-passed, passed-judged}
 use Rattle.rules.proofs.LiveLaws.{effectful, leaving, counted-live, counted-dead, effect-live, effect-alive}
 use Rattle.rules.proofs.LoopLaws.{by-open, openly-self, openly-part}
+use Rattle.rules.proofs.PartLaws.{statement-fits}
 use Rattle.rules.proofs.ValueLaws.{effect-parts, effect-here}
 
 -- no fixed condition
@@ -102,12 +103,11 @@ module _ (program : Program) (well : Formed program) where
   effect-below zero n l e = absurd (omega arith)
   effect-below (suc k) n l e =
       let inner : ℕ → Bool = λ a. effectful program a && ltb a n in
-      let fits = well .statement-fits n in
       let own : effectOf program (effectful program) (former n) ≡ true =
       sym (effect-live program well n (effect-alive program well n e)) ∙ e in
       let below : effectOf program inner (former n) ≡ true =
-      effect-parts program n inner (effectful program) (λ a h. simp (lt-ltb a n h, and-true)) (former n) fits ∙ own in
-      effect-here program n former fits
+      effect-parts program n inner (effectful program) (λ a h. simp (lt-ltb a n h, and-true)) (former n) (statement-fits program well n refl) ∙ own in
+      effect-here program n former (well .statement-fits n)
       ∙ effect-of inner (effect program former)
       (λ a h.
       effect-below k a (omega (arith, ltb-true a n (both-right (effectful program a) (ltb a n) h)))

@@ -1,24 +1,22 @@
 -- What a node is, by its kind, and what a well-formed table says of its fields.
-use mathlib.Core.Bool.{true, false, _&&_}
+use mathlib.Core.Bool.{true, false}
 use mathlib.Core.List.{[], _∷_}
 use mathlib.Core.Path.{_≡_, refl, sym, _∙_, ap}
 use Prim.Native.Nat.{ℕ, zero, suc, _+_, _-_, _≤_, _<_}
 use native.Mathlib.Decide.{decLt}
 use native.Mathlib.Omega.{arith}
-use lib.Dec.{ltb}
 use lib.ListN.{getD}
 use borrow.Author.Tests.{ltb-true}
 use Rattle.rules.specs.declared.Node.{Node}
 use Rattle.rules.specs.Table.{Program, firstStatement, gatheredAreas, variables, procedures, nodeAt}
-use Rattle.rules.specs.Table.{expressionOf, statementOf, expressionAt, statementAt}
+use Rattle.rules.specs.Table.{expressionOf, statementOf, expressionAt, statementAt, expressionOperands, statementOperands}
 use Rattle.rules.specs.Table.{Operator, sum, difference, product, quotient, less, equal, both}
 use Rattle.rules.specs.Table.{Expression, variable, door, slot, operation}
 use Rattle.rules.specs.Table.{Statement, nothing, assign, sequence, branch, loop, call, latch, collective, leave}
-use Rattle.rules.specs.Table.{Collective, barrier, broadcast, exchange, isLeave}
-use Rattle.rules.specs.WellFormed.{expressionPart, statementPart, expressionFits, collectiveFits, statementFits}
-use Rattle.rules.proofs.AnswerLaws.{both-left, both-right}
+use Rattle.rules.specs.Table.{barrier, broadcast, exchange, isLeave}
+use Rattle.rules.specs.WellFormed.{expressionPart, statementPart}
 use Rattle.rules.proofs.Formed.{Formed}
-use Rattle.rules.proofs.ValueLaws.{area-fields}
+use Rattle.rules.proofs.PartLaws.{EachFits, expression-fits, statement-fits}
 
 -- the operator of kind 6 + j
 abbrev pub operatorAt : ℕ → Operator
@@ -138,104 +136,60 @@ module _ (program : Program) (formed : Formed program) (n : ℕ) (m : Node) (her
   unfolding statementAt
   statement-here t = ap statementOf (sym here) ∙ t
 
-  expression-fits : {e : Expression} → expressionOf m ≡ e → expressionFits program n e ≡ true
-  expression-fits t = rw (expression-here t) at (formed .expression-fits n)
+  of-expression : {e : Expression} → expressionOf m ≡ e → EachFits program n (expressionOperands e)
+  of-expression t = expression-fits program formed n (expression-here t)
 
-  statement-fits : {s : Statement} → statementOf m ≡ s → statementFits program n s ≡ true
-  statement-fits t = rw (statement-here t) at (formed .statement-fits n)
+  of-statement : {s : Statement} → statementOf m ≡ s → EachFits program n (statementOperands s)
+  of-statement t = statement-fits program formed n (statement-here t)
 
   pub variable-field : m .kind ≡ 1 → m .a < variables program
-  unfolding expressionFits
-  variable-field e = ltb-true (m .a) (variables program) (expression-fits (variable-of m e))
-
-  operands : 6 ≤ m .kind → m .kind ≤ 12 → (expressionPart program n (m .a) && expressionPart program n (m .b)) ≡ true
-  unfolding expressionFits
-  operands h k = expression-fits (operation-of m h k)
+  variable-field e = ltb-true (m .a) (variables program) (of-expression (variable-of m e) .0)
 
   pub slot-fields : m .kind ≡ 5 → (expressionPart program n (m .a) ≡ true) × (m .b < gatheredAreas)
-  unfolding expressionFits
-  slot-fields e = area-fields program n (m .a) (m .b) (expression-fits (slot-of m e))
+  slot-fields e = let fit = of-expression (slot-of m e) in (fit .0, ltb-true (m .b) gatheredAreas (fit .1 .0))
 
   pub first-part : 4 ≤ m .kind → m .kind ≤ 12 → expressionPart program n (m .a) ≡ true
-  unfolding expressionFits
   first-part h k =
       elim (decLt (m .kind) 6) [
         | yes l ↦
             elim (decLt (m .kind) 5) [
-              | yes l′ ↦ expression-fits (door-of m (omega arith))
+              | yes l′ ↦ of-expression (door-of m (omega arith)) .0
               | no l′ ↦ slot-fields (omega arith) .0
             ]
-        | no l ↦ both-left (expressionPart program n (m .a)) (expressionPart program n (m .b)) (operands (omega arith) k)
+        | no l ↦ of-expression (operation-of m (omega arith) k) .0
       ]
 
   pub second-part : 6 ≤ m .kind → m .kind ≤ 12 → expressionPart program n (m .b) ≡ true
-  second-part h k = both-right (expressionPart program n (m .a)) (expressionPart program n (m .b)) (operands h k)
+  second-part h k = of-expression (operation-of m h k) .1 .0
 
   pub assign-fields : m .kind ≡ 17 → (m .a < variables program) × (expressionPart program n (m .b) ≡ true)
-  unfolding statementFits
-  assign-fields e =
-      let low = ltb (m .a) (variables program) in
-      let value = expressionPart program n (m .b) in
-      let all : (low && value) ≡ true = statement-fits (assign-of m e) in
-      (ltb-true (m .a) (variables program) (both-left low value all), both-right low value all)
+  assign-fields e = let fit = of-statement (assign-of m e) in (ltb-true (m .a) (variables program) (fit .0), fit .1 .0)
 
   pub sequence-fields : m .kind ≡ 18 → (statementPart program n (m .a) ≡ true) × (statementPart program n (m .b) ≡ true)
-  unfolding statementFits
-  sequence-fields e =
-      let first = statementPart program n (m .a) in
-      let second = statementPart program n (m .b) in
-      let all : (first && second) ≡ true = statement-fits (sequence-of m e) in
-      (both-left first second all, both-right first second all)
+  sequence-fields e = let fit = of-statement (sequence-of m e) in (fit .0, fit .1 .0)
 
   pub branch-fields : m .kind ≡ 19
       → (expressionPart program n (m .a) ≡ true)
       × (statementPart program n (m .b) ≡ true)
       × (statementPart program n (m .c) ≡ true)
-  unfolding statementFits
-  branch-fields e =
-      let test = expressionPart program n (m .a) in
-      let so = statementPart program n (m .b) in
-      let otherwise = statementPart program n (m .c) in
-      let all : (test && so && otherwise) ≡ true = statement-fits (branch-of m e) in
-      let front = both-left (test && so) otherwise all in
-      (both-left test so front, both-right test so front, both-right (test && so) otherwise all)
+  branch-fields e = let fit = of-statement (branch-of m e) in (fit .0, fit .1 .0, fit .1 .1 .0)
 
   pub loop-fields : m .kind ≡ 20 → (expressionPart program n (m .a) ≡ true) × (statementPart program n (m .b) ≡ true)
-  unfolding statementFits
-  loop-fields e =
-      let test = expressionPart program n (m .a) in
-      let again = statementPart program n (m .b) in
-      let all : (test && again) ≡ true = statement-fits (loop-of m e) in
-      (both-left test again all, both-right test again all)
+  loop-fields e = let fit = of-statement (loop-of m e) in (fit .0, fit .1 .0)
 
   pub call-field : m .kind ≡ 21 → m .a < procedures program
-  unfolding statementFits
-  call-field e = ltb-true (m .a) (procedures program) (statement-fits (call-of m e))
+  call-field e = ltb-true (m .a) (procedures program) (of-statement (call-of m e) .0)
 
   pub latch-fields : m .kind ≡ 22 → (expressionPart program n (m .a) ≡ true) × (expressionPart program n (m .b) ≡ true)
-  unfolding statementFits
-  latch-fields e =
-      let place = expressionPart program n (m .a) in
-      let value = expressionPart program n (m .b) in
-      let all : (place && value) ≡ true = statement-fits (latch-of m e) in
-      (both-left place value all, both-right place value all)
+  latch-fields e = let fit = of-statement (latch-of m e) in (fit .0, fit .1 .0)
 
   pub broadcast-fields : m .kind ≡ 24
       → (m .a < variables program)
       × (expressionPart program n (m .b) ≡ true)
       × (expressionPart program n (m .c) ≡ true)
-  unfolding statementFits collectiveFits
   broadcast-fields e =
-      let low = ltb (m .a) (variables program) in
-      let value = expressionPart program n (m .b) in
-      let source = expressionPart program n (m .c) in
-      let all : (low && value && source) ≡ true = statement-fits (broadcast-of m e) in
-      let front = both-left (low && value) source all in (
-        ltb-true (m .a) (variables program) (both-left low value front),
-        both-right low value front,
-        both-right (low && value) source all,
-      )
+      let fit = of-statement (broadcast-of m e) in
+      (ltb-true (m .a) (variables program) (fit .0), fit .1 .0, fit .1 .1 .0)
 
   pub exchange-fields : m .kind ≡ 25 → (expressionPart program n (m .a) ≡ true) × (m .b < gatheredAreas)
-  unfolding statementFits collectiveFits
-  exchange-fields e = area-fields program n (m .a) (m .b) (statement-fits (exchange-of m e))
+  exchange-fields e = let fit = of-statement (exchange-of m e) in (fit .0, ltb-true (m .b) gatheredAreas (fit .1 .0))

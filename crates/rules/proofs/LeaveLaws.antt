@@ -1,35 +1,27 @@
 -- Question 26 by the bodies: where no procedure's body holds a leave outside every while, each leave has a while around it. So a
 -- pass from the parts up need only look at the bodies.
-use mathlib.Core.Bool.{true, false, _&&_}
-use mathlib.Core.List.{List, [], _∷_, _++_}
+use mathlib.Core.Bool.{true, false}
+use mathlib.Core.List.{List, [], _∷_}
 use mathlib.Core.Logic.{_≢_, _⊎_, inl, inr, ⊎-elim}
 use mathlib.Core.Path.{_≡_, refl, sym, _∙_, ap, subst}
 use Prim.Native.Nat.{ℕ, zero, suc, _+_, _-_, _≤_, _<_}
 use native.Mathlib.Decide.{decLt, ℕ-discrete}
 use native.Mathlib.Omega.{arith}
-use lib.Dec.{ltb}
 use borrow.Author.Tests.{leb-true, ne-eqb}
 use Rattle.rules.specs.Judgement.{holdsLeave}
 use Rattle.rules.specs.Table.{Program}
-use Rattle.rules.specs.Table.{variables, procedures, nodes, body, nodeAt, statementOf, expressionAt, statementAt, isLeave}
+use Rattle.rules.specs.Table.{procedures, nodes, body, nodeAt, statementOf, expressionAt, statementAt, isLeave}
 use Rattle.rules.specs.Table.{Expression, constant, variable, ownNumber, processCount, door, slot, operation}
 use Rattle.rules.specs.Table.{Statement, nothing, assign, sequence, branch, loop, call, latch, collective, leave}
-use Rattle.rules.specs.Table.{Collective, barrier, broadcast, exchange}
-use Rattle.rules.specs.WellFormed.{isExpression, expressionPart, statementPart, expressionFits, collectiveFits, statementFits}
-use Rattle.rules.specs.WellFormed.{expressionParts, collectiveParts, statementParts, partsAt, joined, uses, occurrences}
+use Rattle.rules.specs.Table.{barrier, broadcast, exchange, expressionOperands, statementOperands}
+use Rattle.rules.specs.WellFormed.{isExpression, expressionParts, statementParts, partsAt, joined, uses, occurrences}
 use Rattle.rules.specs.WellFormed.{openParts, nearestLoop}
-use Rattle.rules.proofs.AnswerLaws.{both-left, both-right}
 use Rattle.rules.proofs.Formed.{Formed, Enclosed, statement-past}
 use Rattle.rules.proofs.AnywhereLaws.{In}
-use Rattle.rules.proofs.LoopLaws.{OpenPart, counted-append, part-low, openly-self, openly-part}
+use Rattle.rules.proofs.LoopLaws.{OpenPart, openly-self, openly-part}
 use Rattle.rules.proofs.LoopLaws.{named-below, nearest-part, nearest-body}
-use Rattle.rules.proofs.ValueLaws.{expression-part-sort, area-fields}
-
-in-append : (xs ys : List ℕ) (a : ℕ) → In a (xs ++ ys) → In a xs ⊎ In a ys
-in-append [] ys a i = inr i
-in-append (x ∷ xs) ys a (inl e) = inl (inl e)
-in-append (x ∷ xs) ys a (inr i) =
-    ⊎-elim (λ (h : In a xs). inl (inr h)) (λ (h : In a ys). inr h) (in-append xs ys a i)
+use Rattle.rules.proofs.PartLaws.{in-append, in-one, in-joined, part-low}
+use Rattle.rules.proofs.PartLaws.{expression-part-sort, EachFits, expression-fits, statement-fits}
 
 pub counted-in : (xs : List ℕ) (a : ℕ) → 1 ≤ occurrences a xs → In a xs
 unfolding occurrences
@@ -42,81 +34,48 @@ counted-in (x ∷ xs) a h =
           inr (counted-in xs a (omega arith))
     ]
 
-joined-in : (list : ℕ → List ℕ) (a n : ℕ) → 1 ≤ occurrences a (joined list n) → (k : ℕ) × (k < n) × In a (list k)
-unfolding joined occurrences
-joined-in list a zero h = absurd (omega arith)
-joined-in list a (suc n) h =
-    let split = counted-append (joined list n) (list n) a in
-    elim (decLt 0 (occurrences a (list n))) [
-      | yes l ↦ (n, omega arith, counted-in (list n) a (omega arith))
-      | no m ↦ let (k, l, i) = joined-in list a n (omega arith) in (k, omega arith, i)
-    ]
-
 module _ (program : Program) (n : ℕ) where
   -- the parts of an expression are expressions
-  expression-sort : (e : Expression) (a : ℕ) → expressionFits program n e ≡ true → In a (expressionParts e)
+  expression-sort : (e : Expression) (a : ℕ) → EachFits program n (expressionOperands e) → In a (expressionParts e)
       → isExpression program a ≡ true
-  unfolding expressionFits expressionParts
+  unfolding expressionParts
   expression-sort (constant v) a h i = absurd i
   expression-sort (variable v) a h i = absurd i
   expression-sort ownNumber a h i = absurd i
   expression-sort processCount a h i = absurd i
-  expression-sort (door x) a h (inl e) = rw e (expression-part-sort program n x h)
+  expression-sort (door x) a h (inl e) = rw e (expression-part-sort program n x (h .0))
   expression-sort (door x) a h (inr i) = absurd i
-  expression-sort (slot x r) a h (inl e) = rw e (expression-part-sort program n x (area-fields program n x r h .0))
+  expression-sort (slot x r) a h (inl e) = rw e (expression-part-sort program n x (h .0))
   expression-sort (slot x r) a h (inr i) = absurd i
-  expression-sort (operation o x y) a h (inl e) =
-      rw e (expression-part-sort program n x (both-left (expressionPart program n x) (expressionPart program n y) h))
-  expression-sort (operation o x y) a h (inr (inl e)) =
-      rw e (expression-part-sort program n y (both-right (expressionPart program n x) (expressionPart program n y) h))
+  expression-sort (operation o x y) a h (inl e) = rw e (expression-part-sort program n x (h .0))
+  expression-sort (operation o x y) a h (inr (inl e)) = rw e (expression-part-sort program n y (h .1 .0))
   expression-sort (operation o x y) a h (inr (inr i)) = absurd i
-
-  collective-sort : (k : Collective) (a : ℕ) → collectiveFits program n k ≡ true → In a (collectiveParts k)
-      → isExpression program a ≡ true
-  unfolding collectiveFits collectiveParts
-  collective-sort barrier a h i = absurd i
-  collective-sort (broadcast x y z) a h (inl e) =
-      rw e
-      (expression-part-sort program n y
-      (both-right (ltb x (variables program)) (expressionPart program n y)
-      (both-left (ltb x (variables program) && expressionPart program n y) (expressionPart program n z) h)))
-  collective-sort (broadcast x y z) a h (inr (inl e)) =
-      rw e
-      (expression-part-sort program n z
-      (both-right (ltb x (variables program) && expressionPart program n y) (expressionPart program n z) h))
-  collective-sort (broadcast x y z) a h (inr (inr i)) = absurd i
-  collective-sort (exchange x r) a h (inl e) = rw e (expression-part-sort program n x (area-fields program n x r h .0))
-  collective-sort (exchange x r) a h (inr i) = absurd i
 
   -- a part of a statement is an expression, stands in the same while, or is a while's body
   abbrev pub Sorted : Statement → ℕ → Type 0
   Sorted s a = (isExpression program a ≡ true) ⊎ (In a (openParts s) ⊎ ((c : ℕ) × (s ≡ loop c a)))
 
-  statement-sort : (s : Statement) (a : ℕ) → statementFits program n s ≡ true → In a (statementParts s) → Sorted s a
-  unfolding statementFits statementParts openParts
+  statement-sort : (s : Statement) (a : ℕ) → EachFits program n (statementOperands s) → In a (statementParts s) → Sorted s a
+  unfolding statementParts openParts
   statement-sort nothing a h i = absurd i
-  statement-sort (assign x y) a h (inl e) =
-      inl (rw e (expression-part-sort program n y (both-right (ltb x (variables program)) (expressionPart program n y) h)))
+  statement-sort (assign x y) a h (inl e) = inl (rw e (expression-part-sort program n y (h .1 .0)))
   statement-sort (assign x y) a h (inr i) = absurd i
   statement-sort (sequence x y) a h i = inr (inl i)
-  statement-sort (branch x y z) a h (inl e) =
-      inl
-      (rw e
-      (expression-part-sort program n x
-      (both-left (expressionPart program n x) (statementPart program n y)
-      (both-left (expressionPart program n x && statementPart program n y) (statementPart program n z) h))))
+  statement-sort (branch x y z) a h (inl e) = inl (rw e (expression-part-sort program n x (h .0)))
   statement-sort (branch x y z) a h (inr i) = inr (inl i)
-  statement-sort (loop x y) a h (inl e) =
-      inl (rw e (expression-part-sort program n x (both-left (expressionPart program n x) (statementPart program n y) h)))
+  statement-sort (loop x y) a h (inl e) = inl (rw e (expression-part-sort program n x (h .0)))
   statement-sort (loop x y) a h (inr (inl e)) = inr (inr (x, ap (loop x) (sym e)))
   statement-sort (loop x y) a h (inr (inr i)) = absurd i
   statement-sort (call p) a h i = absurd i
-  statement-sort (latch x y) a h (inl e) =
-      inl (rw e (expression-part-sort program n x (both-left (expressionPart program n x) (expressionPart program n y) h)))
-  statement-sort (latch x y) a h (inr (inl e)) =
-      inl (rw e (expression-part-sort program n y (both-right (expressionPart program n x) (expressionPart program n y) h)))
+  statement-sort (latch x y) a h (inl e) = inl (rw e (expression-part-sort program n x (h .0)))
+  statement-sort (latch x y) a h (inr (inl e)) = inl (rw e (expression-part-sort program n y (h .1 .0)))
   statement-sort (latch x y) a h (inr (inr i)) = absurd i
-  statement-sort (collective k) a h i = inl (collective-sort k a h i)
+  statement-sort (collective barrier) a h i = absurd i
+  statement-sort (collective (broadcast x y z)) a h (inl e) = inl (rw e (expression-part-sort program n y (h .1 .0)))
+  statement-sort (collective (broadcast x y z)) a h (inr (inl e)) = inl (rw e (expression-part-sort program n z (h .1 .1 .0)))
+  statement-sort (collective (broadcast x y z)) a h (inr (inr i)) = absurd i
+  statement-sort (collective (exchange x r)) a h (inl e) = inl (rw e (expression-part-sort program n x (h .0)))
+  statement-sort (collective (exchange x r)) a h (inr i) = absurd i
   statement-sort leave a h i = absurd i
 
   -- an expression reads as nothing
@@ -132,16 +91,14 @@ module _ (program : Program) (formed : Formed program) where
       → ((m : ℕ) × In n (partsAt program m)) ⊎ ((p : ℕ) × (p < procedures program) × (n ≡ body program p))
   unfolding uses
   user n l =
-      let once = formed .used-once n l in
-      let split = counted-append (joined (partsAt program) (nodes program)) (joined (λ p. body program p ∷ []) (procedures program)) n in
-      elim (decLt 0 (occurrences n (joined (partsAt program) (nodes program)))) [
-        | yes some ↦
-            let (m, b, i) = joined-in (partsAt program) n (nodes program) (omega arith) in
-            inl (m, i)
-        | no none ↦
-            let (p, b, i) = joined-in (λ p. body program p ∷ []) n (procedures program) (omega arith) in
-            inr (p, b, ⊎-elim (λ (e : n ≡ body program p). e) (λ (z : ⊥). absurd z) i)
-      ]
+      let parts = joined (partsAt program) (nodes program) in
+      let bodies = joined (λ p. body program p ∷ []) (procedures program) in
+      ⊎-elim
+      (λ (h : In n parts). let (m, b, i) = in-joined (partsAt program) n (nodes program) h in inl (m, i))
+      (λ (h : In n bodies).
+      let (p, b, i) = in-joined (λ p. body program p ∷ []) n (procedures program) h in
+      inr (p, b, in-one n (body program p) i))
+      (in-append parts bodies n (counted-in (uses program) n (omega (arith, formed .used-once n l))))
 
   -- a part is an expression, stands in the same while, or is a while's body
   pub part-sorted : (m n : ℕ) → In n (partsAt program m) → Sorted program m (statementAt program m) n
@@ -149,9 +106,9 @@ module _ (program : Program) (formed : Formed program) where
   part-sorted m n i =
       ⊎-elim
       (λ (h : In n (expressionParts (expressionAt program m))).
-      inl (expression-sort program m (expressionAt program m) n (formed .expression-fits m) h))
+      inl (expression-sort program m (expressionAt program m) n (expression-fits program formed m refl) h))
       (λ (h : In n (statementParts (statementAt program m))).
-      statement-sort program m (statementAt program m) n (formed .statement-fits m) h)
+      statement-sort program m (statementAt program m) n (statement-fits program formed m refl) h)
       (in-append (expressionParts (expressionAt program m)) (statementParts (statementAt program m)) n i)
 
   -- and one that is a statement stands in the same while, or is a while's body

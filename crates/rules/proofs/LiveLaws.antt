@@ -1,26 +1,26 @@
 -- Laws of live nodes. A part of a live node is live unless it is a branch never taken; a node with a live part is live; a procedure's
 -- body is live; and of a live if the branch that a process takes is live. A node counts as what it is where it is live, and else as
 -- nothing, so what has an effect or holds a leave is live.
-use mathlib.Core.Bool.{Bool, true, false, cond, not, _||_}
+use mathlib.Core.Bool.{Bool, true, false, cond, not}
 use mathlib.Core.List.{[], _∷_}
-use mathlib.Core.Logic.{_≢_, _⊎_, inl, inr, ⊎-elim}
+use mathlib.Core.Logic.{inl, inr, ⊎-elim}
 use mathlib.Core.Path.{_≡_, refl, sym, _∙_, ap, subst}
-use Prim.Native.Nat.{ℕ, _+_, _≤_, _<_}
+use Prim.Native.Nat.{ℕ, _≤_, _<_}
 use native.Mathlib.Omega.{arith}
 use lib.Dec.{eqb}
-use borrow.Author.Tests.{eq-eqb, eqb-true}
+use borrow.Author.Tests.{eq-eqb}
 use Rattle.rules.specs.Evaluation.{Environment, value}
 use Rattle.rules.specs.Judgement.{Fixing, fixed, unfixed, fixing, neverTaken, deadIn, live, counted, effectOf, effect, holdsLeave}
 use Rattle.rules.specs.Table.{Program, procedures, nodes, body, expressionAt, statementAt, isLeave}
 use Rattle.rules.specs.Table.{Statement, nothing, assign, sequence, branch, loop, call, latch, collective, leave}
 use Rattle.rules.specs.WellFormed.{statementFits, expressionParts, statementParts, partsAt, joined, uses, occurrences, inTree}
-use Rattle.rules.proofs.AnywhereLaws.{In, Below, Above, anywhere-cases, anywhere-part, stands-down, stands-above}
+use Rattle.rules.proofs.AnywhereLaws.{In, Above, stands-down, stands-above}
 use Rattle.rules.proofs.ChoiceLaws.{bool-cases, all-true, all-at}
 use Rattle.rules.proofs.FixedLaws.{fixed-value-in}
 use Rattle.rules.proofs.Formed.{Formed}
 use Rattle.rules.proofs.LoopLaws.{failing, by-open, open-part}
-use Rattle.rules.proofs.LoopLaws.{counted-append, joined-one, part-low, named-below, one-name, part-no-body, statement-part, body-part}
-use Rattle.rules.proofs.PartLaws.{tree-self}
+use Rattle.rules.proofs.LoopLaws.{counted-append, joined-one, named-below, one-name, part-no-body, statement-part, body-part}
+use Rattle.rules.proofs.PartLaws.{part-low, tree-self}
 use Rattle.rules.proofs.ValueLaws.{effect-here}
 
 -- effects and leaves as the nodes count
@@ -45,15 +45,6 @@ module _ (program : Program) (formed : Formed program) where
 
   abbrev InTree : ℕ → ℕ → Type 0
   InTree n m = inTree program n m ≡ true
-
-  tree-cases : (n m : ℕ) → InTree n m → (n ≡ m) ⊎ ((a : ℕ) × Part a m × InTree n a)
-  tree-cases n m t =
-      ⊎-elim (λ (e : eqb m n ≡ true). inl (sym (eqb-true m n e)))
-      (λ (found : Below (partsAt program) (λ k. eqb k n) m). let (a, i, l, h) = found in inr (a, i, h))
-      (anywhere-cases (partsAt program) (λ k. eqb k n) m t)
-
-  tree-part : (n m a : ℕ) → Part a m → InTree n a → InTree n m
-  tree-part n m a i t = anywhere-part (partsAt program) (λ k. eqb k n) m a i (part-low program formed m a i) t
 
   -- a part stands where its node stands
   tree-down : (n a m : ℕ) → Part a n → InTree n m → InTree a m

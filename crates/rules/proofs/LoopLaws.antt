@@ -18,18 +18,9 @@ use Rattle.rules.proofs.AnywhereLaws.{In, anyOf, Below, anywhere-at, an
 use Rattle.rules.proofs.AnywhereLaws.{carried, stands-above}
 use Rattle.rules.proofs.ChoiceLaws.{first-none, first-at, first-fails}
 use Rattle.rules.proofs.Formed.{Formed, expression-past, statement-past}
-use Rattle.rules.proofs.PartLaws.{AllOf, parts-below}
+use Rattle.rules.proofs.PartLaws.{in-behind, part-low}
 
-all-in : (P : ℕ → Type 0) (xs : List ℕ) (a : ℕ) → AllOf P xs → In a xs → P a
-all-in P [] a h i = absurd i
-all-in P (x ∷ xs) a h (inl e) = subst P (sym e) (h .0)
-all-in P (x ∷ xs) a h (inr i) = all-in P xs a (h .1) i
-
-in-behind : (xs ys : List ℕ) (a : ℕ) → In a ys → In a (xs ++ ys)
-in-behind [] ys a i = i
-in-behind (x ∷ xs) ys a i = inr (in-behind xs ys a i)
-
--- how often it stands there
+-- how often a number stands in a list
 
 pub in-counted : (xs : List ℕ) (a : ℕ) → In a xs → 1 ≤ occurrences a xs
 unfolding occurrences
@@ -98,9 +89,6 @@ module _ (program : Program) (formed : Formed program) where
   pub open-part : (n a : ℕ) → OpenPart a n → In a (partsAt program n)
   open-part n a i = statement-part n a (open-parts (statementAt program n) a i)
 
-  pub part-low : (n a : ℕ) → In a (partsAt program n) → a < n
-  part-low n a i = all-in (λ x. x < n) (partsAt program n) a (parts-below program formed n) i
-
   -- a node past the last has no parts
   pub named-below : (n a : ℕ) → In a (partsAt program n) → n < nodes program
   unfolding partsAt expressionParts statementParts
@@ -119,7 +107,7 @@ module _ (program : Program) (formed : Formed program) where
   unfolding uses
   named-twice m n a h i j =
       let l = named-below n a j in
-      let low = part-low n a j in
+      let low = part-low program formed n a j in
       let once = formed .used-once a (omega arith) in
       let split = counted-append (joined (partsAt program) (nodes program)) (joined (λ p. body program p ∷ []) (procedures program)) a in
       omega (
@@ -156,7 +144,7 @@ module _ (program : Program) (formed : Formed program) where
 
   -- a test that holds openly
   open-low : (m a : ℕ) → OpenPart a m → a < m
-  open-low m a i = part-low m a (open-part m a i)
+  open-low m a i = part-low program formed m a (open-part m a i)
 
   module _ (test : ℕ → Bool) where
     -- the recursion, unrolled once

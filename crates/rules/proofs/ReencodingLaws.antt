@@ -1,5 +1,5 @@
 -- What a well-formed table says, written out, is that table.
-use mathlib.Core.Bool.{Bool, _&&_}
+use mathlib.Core.Bool.{Bool}
 use mathlib.Core.List.{List}
 use mathlib.Core.Path.{_≡_, refl, sym, _∙_, ap}
 use Prim.Native.Nat.{ℕ, zero, suc, _+_, _-_, _*_, _/_, _%_, _^_, _≤_, _<_}
@@ -17,7 +17,7 @@ use Rattle.rules.specs.Table.{variables, procedures, nodes, flagged, bod
 use Rattle.rules.specs.WellFormed.{procedureFits}
 use Rattle.rules.proofs.AnswerLaws.{both-left}
 use Rattle.rules.proofs.EncodingLaws.{bytes-length, byte-at, word-of-procedure, word-of-node}
-use Rattle.rules.proofs.Formed.{Passes, well-passes, header-word}
+use Rattle.rules.proofs.Formed.{Passes, well-passes, header}
 
 -- a word and its bytes
 module _ (table : List ℕ) (bytes : Bytes table) (i : ℕ) where
@@ -79,7 +79,7 @@ flag-parts w h flag is (suc n) l =
 module _ (table : List ℕ) (bytes : Bytes table) (q : Passes table) where
   word-0 : headerWord (decode table) ≡ wordAt table 0
   unfolding headerWord decode variables procedures nodes edition
-  word-0 = let (first, low) = header-word table (q .header) in header-parts (wordAt table 0) first low
+  word-0 = let word = header table (q .header) in header-parts (wordAt table 0) (word .first-edition) (word .rest-zero)
 
   word-1 : flagBits (flagged (decode table)) 32 ≡ wordAt table 1
   unfolding decode flagged

@@ -16,13 +16,14 @@ use Rattle.rules.specs.Process.{variablePlaces, latchPlaces, mostProcess
 use Rattle.rules.specs.Process.{depth, top, popped, replaced, pushed, unwound, advanced, needsPlace}
 use Rattle.rules.specs.Table.{Program, variables, flagged, body, effectFlag, procedures, statementAt, isLeave}
 use Rattle.rules.specs.Table.{Statement, nothing, assign, sequence, branch, loop, call, latch, collective, leave}
-use Rattle.rules.specs.WellFormed.{statementFits, expressionPart, openParts, nearestLoop}
-use Rattle.rules.proofs.AnswerLaws.{both-left, both-true}
+use Rattle.rules.specs.WellFormed.{openParts, nearestLoop}
+use Rattle.rules.proofs.AnswerLaws.{both-true, implied}
 use Rattle.rules.proofs.ChoiceLaws.{bool-cases}
 use Rattle.rules.proofs.Formed.{Formed, Enclosed}
 use Rattle.rules.proofs.Judged.{Judged}
 use Rattle.rules.proofs.LiveLaws.{effectful, effect-live}
 use Rattle.rules.proofs.LoopLaws.{Inside, nearest-loop}
+use Rattle.rules.proofs.PartLaws.{statement-fits}
 use Rattle.rules.proofs.SingleLaws.{single-value}
 use Rattle.rules.proofs.StackLaws.{stack, stackOf, stackOf-kept, stack-top, stack-popped, stack-replaced, stack-pushed}
 use Rattle.rules.proofs.StackLaws.{set-depth, set-entry, replaced-length, replaced-depth, droppedTo, unwound-below, stack-unwound}
@@ -45,11 +46,7 @@ not-or-false : (s t : Bool) → (not s || t) ≡ true → t ≡ false → s ≡ 
 not-or-false true t e f = let z : _≡_ {A = ℕ} 0 1 = cc in absurd (omega arith)
 not-or-false false t e f = refl
 
--- what the rules of questions 13, 15 and 16 leave to a statement with an effect
-or-denied : (s t : Bool) → (not s || t) ≡ true → s ≡ true → t ≡ true
-or-denied true t e f = e
-or-denied false t e f = let z : _≡_ {A = ℕ} 0 1 = cc in absurd (omega arith)
-
+-- what the rule of question 16 leaves to a body with an effect
 loop-single : (s l b : Bool) → ((s && not l) || not b) ≡ true → b ≡ true → s ≡ true
 loop-single true l b r e = refl
 loop-single false l true r e = r
@@ -140,37 +137,38 @@ module _ (program : Program) (formed : Formed program) (enclosed : Enclosed prog
       unlike a b e = let z : _≡_ {A = ℕ} 0 1 = cc in omega arith
 
   -- a statement that is not visible
-  quiet-view : (s : Statement) → statementAt program (top words) ≡ s → statementFits program (top words) s ≡ true
+  quiet-view : (s : Statement) → statementAt program (top words) ≡ s
       → visible program (top words) ≡ false → effectOf program (effectful program) s ≡ false
       → (needsPlace program env s ≡ true → depth words < stackPlaces)
       → viewOf program (advanced program env words s) ≡ withPending (viewOf program words) (loud program rest)
-  unfolding statementFits effectOf needsPlace advanced openParts
-  quiet-view nothing s h q e room = plain-popped-view
-  quiet-view (assign a b) s h q e room =
+  unfolding effectOf needsPlace advanced openParts
+  quiet-view nothing s q e room = plain-popped-view
+  quiet-view (assign a b) s q e room =
       let l : a < variablePlaces =
-      omega (arith, ltb-true a (variables program) (both-left (ltb a (variables program)) (expressionPart program (top words) b) h), formed .variables-high) in
+      omega (arith, ltb-true a (variables program) (statement-fits program formed (top words) s .0), formed .variables-high) in
       popped-view a (value program env b) (omega arith) (set-local-shown program formed words a (value program env b) (simp e) l)
-  quiet-view (sequence a b) s h q e room =
+  quiet-view (sequence a b) s q e room =
       sequence-view a b (room refl)
       ∙ simp (quiet-part program formed (top words) a (rw s (inl refl)) q, quiet-part program formed (top words) b (rw s (inr (inl refl))) q)
-  quiet-view (branch a b c) s h q e room =
+  quiet-view (branch a b c) s q e room =
       ⊎-elim
       (λ (t : eqb (value program env a) 0 ≡ true).
       simp t (replaced-view c ∙ simp (quiet-part program formed (top words) c (rw s (inr (inl refl))) q)))
       (λ (t : eqb (value program env a) 0 ≡ false).
       simp t (replaced-view b ∙ simp (quiet-part program formed (top words) b (rw s (inl refl)) q)))
       (bool-cases (eqb (value program env a) 0))
-  quiet-view (loop a b) s h q e room =
+  quiet-view (loop a b) s q e room =
       ⊎-elim
       (λ (t : eqb (value program env a) 0 ≡ true). simp t plain-popped-view)
       (λ (t : eqb (value program env a) 0 ≡ false).
       simp t (pushed-view b (room (simp t)) ∙ simp (q, quiet-body program formed (top words) a b s q)))
       (bool-cases (eqb (value program env a) 0))
-  quiet-view (call p) s h q e room =
-      replaced-view (body program p) ∙ simp (unflagged-body program formed judged p (ltb-true p (procedures program) h) e)
-  quiet-view (latch a b) s h q e room = latch-view (value program env a) (value program env b)
-  quiet-view (collective k) s h q e room = let z : _≡_ {A = ℕ} 0 1 = cc in absurd (omega arith)
-  quiet-view leave s h q e room =
+  quiet-view (call p) s q e room =
+      let low = ltb-true p (procedures program) (statement-fits program formed (top words) s .0) in
+      replaced-view (body program p) ∙ simp (unflagged-body program formed judged p low e)
+  quiet-view (latch a b) s q e room = latch-view (value program env a) (value program env b)
+  quiet-view (collective k) s q e room = let z : _≡_ {A = ℕ} 0 1 = cc in absurd (omega arith)
+  quiet-view leave s q e room =
       let (a, b, t, o) = nearest-loop program formed (top words) (enclosed (top words) s) in
       leave-view s
       ∙ ap (withPending (viewOf program words))
@@ -209,33 +207,33 @@ module _ (program : Program) (formed : Formed program) (enclosed : Enclosed prog
       ∙ visible-plain program formed (top words) (ap isLeave e ∙ f) (ap openParts e ∙ none) v)
 
   -- a visible statement
-  loud-view : (s : Statement) → statementAt program (top words) ≡ s → statementFits program (top words) s ≡ true
+  loud-view : (s : Statement) → statementAt program (top words) ≡ s
       → visible program (top words) ≡ true → ruleOf program (counted program) s .holds ≡ true
       → (needsPlace program env s ≡ true → depth words < stackPlaces)
       → viewOf program (advanced program env words s) ≡ viewAdvanced program count seen (top words) (loud program rest) s
-  unfolding statementFits effectOf needsPlace advanced ruleOf viewAdvanced openParts
-  loud-view nothing s h q r room = plain-popped-view
-  loud-view (assign a b) s h q r room =
+  unfolding effectOf needsPlace advanced ruleOf viewAdvanced openParts
+  loud-view nothing s q r room = plain-popped-view
+  loud-view (assign a b) s q r room =
       let e : flagged program a ≡ true = plainly (assign a b) s q refl refl in
       let l : a < variables program =
-      ltb-true a (variables program) (both-left (ltb a (variables program)) (expressionPart program (top words) b) h) in
+      ltb-true a (variables program) (statement-fits program formed (top words) s .0) in
       assign-view a (value program env b) e l
       ∙ ap (λ x. withVariable seen a x (loud program rest))
-      (single-value program formed words own count few b (or-denied (flagged program a) (single program b) r e))
-  loud-view (sequence a b) s h q r room = sequence-view a b (room refl)
-  loud-view (branch a b c) s h q r room =
+      (single-value program formed words own count few b (implied (flagged program a) (single program b) r e))
+  loud-view (sequence a b) s q r room = sequence-view a b (room refl)
+  loud-view (branch a b c) s q r room =
       replaced-view (cond (eqb (value program env a) 0) c b)
       ∙ ap (λ x. withPending seen (adding program (cond (eqb x 0) c b) (loud program rest)))
       (single-value program formed words own count few a (branch-single program formed judged (top words) a b c s q))
-  loud-view (loop a b) s h q r room =
+  loud-view (loop a b) s q r room =
       loop-view a b room q
       ∙ ap (λ x. withPending seen (cond (eqb x 0) (loud program rest) (adding program b (top words ∷ loud program rest))))
       (single-value program formed words own count few a
       (loop-single (single program a) (leftLocally program (counted program) b) (effectful program b) r (plainly (loop a b) s q refl refl)))
-  loud-view (call p) s h q r room = replaced-view (body program p)
-  loud-view (latch a b) s h q r room = latch-view (value program env a) (value program env b)
-  loud-view (collective k) s h q r room = refl
-  loud-view leave s h q r room =
+  loud-view (call p) s q r room = replaced-view (body program p)
+  loud-view (latch a b) s q r room = latch-view (value program env a) (value program env b)
+  loud-view (collective k) s q r room = refl
+  loud-view leave s q r room =
       let w = nearestLoop program (top words) in
       leave-view s
       ∙ ap (withPending seen)
@@ -255,14 +253,14 @@ module _ (program : Program) (formed : Formed program) (enclosed : Enclosed prog
       subst (Reached program count g)
       (ap (viewStepOn program count seen) pending
       ∙ sym
-      (loud-view (statementAt program (top words)) refl (formed .statement-fits (top words)) e (judged .rule-holds (top words) alive) room))
+      (loud-view (statementAt program (top words)) refl e (judged .rule-holds (top words) alive) room))
       (reached-step program count g seen reached))
       (λ (e : visible program (top words) ≡ false).
       let pending : loud program (stack words) ≡ loud program rest =
       ap (loud program) (stack-top words sized some) ∙ simp e in
       subst (Reached program count g)
       (sym
-      (quiet-view (statementAt program (top words)) refl (formed .statement-fits (top words)) e
+      (quiet-view (statementAt program (top words)) refl e
       (sym (effect-live program formed (top words) alive)
       ∙ denied (effectful program (top words)) (visible program (top words)) (visible-effect program (top words)) e)
       room

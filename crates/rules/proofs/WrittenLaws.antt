@@ -1,5 +1,5 @@
 -- Of a table that was written, questions 2 to 6 hold, and the others are those of the program.
-use mathlib.Core.Bool.{Bool, true, false, _&&_}
+use mathlib.Core.Bool.{Bool, true, false}
 use mathlib.Core.List.{List}
 use mathlib.Core.Path.{_≡_, refl, _∙_, ap, subst}
 use Prim.Native.Nat.{ℕ, zero, suc, _+_, _-_, _*_, _/_, _%_, _^_, _≤_, _<_}
@@ -9,12 +9,11 @@ use lib.Dec.{leb, eqb}
 use lib.ListN.{length}
 use borrow.Author.Tests.{lt-ltb, le-leb, eq-eqb}
 use Rattle.rules.specs.declared.Verdict.the-variants.{Accepted}
-use Rattle.rules.specs.Answers.{_then_}
-use Rattle.rules.specs.Encoding.{headerWord, flagBits, bodyWord, wordOf, encode, Encodable, Bounded, formedBy, WellWritten}
+use Rattle.rules.specs.Encoding.{headerWord, flagBits, bodyWord, wordOf, encode, Encodable, Bounded, WellWritten}
 use Rattle.rules.specs.Evaluation.{bit}
 use Rattle.rules.specs.Table.{Program, decode, wordAt, edition, procedureWord}
 use Rattle.rules.specs.Table.{variables, procedures, nodes, flagged, effectFlag}
-use Rattle.rules.specs.WellFormed.{headerFits, procedureFits, mostTableBytes, wellBuilt, wellFormed}
+use Rattle.rules.specs.WellFormed.{headerFits, procedureFits, mostTableBytes, formedBy, wellBuilt, wellFormed}
 use Rattle.rules.specs.WellFormed.{question2, question3, question4, question5, question6}
 use Rattle.rules.proofs.AnswerLaws.{both-true, each-accepted}
 use Rattle.rules.proofs.EncodingLaws.{bit-low, bytes-length, word-0, word-1, word-procedure, decode-encode}

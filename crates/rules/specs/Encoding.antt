@@ -6,13 +6,10 @@ use Prim.Native.Nat.{ℕ, zero, suc, _+_, _-_, _*_, _/_, _%_, _^_, _≤_, _<_}
 use lib.Dec.{ltb}
 use lib.ListN.{getD}
 use Rattle.rules.specs.declared.Node.{Node}
-use Rattle.rules.specs.declared.Verdict.{Verdict}
 use Rattle.rules.specs.declared.Verdict.the-variants.{Accepted}
-use Rattle.rules.specs.Answers.{_then_}
 use Rattle.rules.specs.Evaluation.{bit}
 use Rattle.rules.specs.Table.{Program, decode, variables, procedures, nodes, flagged, body, effectFlag, nodeAt, unpacked}
-use Rattle.rules.specs.WellFormed.{joined, wellFormed}
-use Rattle.rules.specs.WellFormed.{question7, question8, question9, question10, question11, question12, question26}
+use Rattle.rules.specs.WellFormed.{joined, formedBy, wellFormed}
 
 -- "32-bit words, high byte first"
 unfoldable pub wordBytes : ℕ → List ℕ
@@ -79,18 +76,7 @@ pub record Bounded (program : Program) : Type 0 where
   pub flags-off : (a : ℕ) → variables program ≤ a → flagged program a ≡ false
   pub bodies-below : (p : ℕ) → p < procedures program → body program p < nodes program
 
--- the first of questions 7 to 12 and 26 that fails
-unfoldable pub formedBy : Program → Verdict
-formedBy program =
-    (question7 program
-    then question8 program
-    then question9 program
-    then question10 program
-    then question11 program
-    then question12 program)
-    then question26 program
-
--- of a table that was written only these are left
+-- of a table that was written only questions 7 to 12 and 26 are left
 abbrev pub WellWritten : Type 0
 WellWritten = (program : Program) → Encodable program → Bounded program → wellFormed (encode program) ≡ formedBy program
 

@@ -20,4 +20,5 @@ pub mod Buffered
 pub mod Scratch
 pub mod Switches
 pub mod Encoding
+pub mod Alike
 pub mod Cases

@@ -16,6 +16,7 @@ use Rattle.rules.specs.Arrivals.{running, statusAt}
 use Rattle.rules.specs.Choice.{firstFailing}
 use Rattle.rules.specs.Run.{Team, turn, afterTurn, afterTurns, answers, startTeam, EqualStart, Agreement}
 use Rattle.rules.specs.Start.{started}
+use Rattle.rules.specs.WellFormed.{Occurs}
 use Rattle.rules.specs.Step.{processesIn, question22, teamVerdict, stepVerdict}
 
 -- "after that one, cyclically": i places after the process next to the last one; the last one itself is at count - 1
@@ -137,10 +138,6 @@ ServesOn =
 unfoldable pub RunsThrough : List ℕ → ℕ → Team → List ℕ → Type 0
 RunsThrough table p team [] = Unit {0}
 RunsThrough table p team (q ∷ turns) = (statusAt (team .roll) p ≡ running) × RunsThrough table p (afterTurn table team q) turns
-
-unfoldable pub Occurs : ℕ → List ℕ → Type 0
-Occurs p [] = ⊥
-Occurs p (q ∷ turns) = (p ≡ q) ⊎ Occurs p turns
 
 -- "A bank that stays running is served within as many turns as there are banks, if so many are left and none of them would
 -- be refused": in any stretch of that length, from turn i on

@@ -34,8 +34,8 @@ pub record Program : Type 0 where
   pub effectFlag : ℕ → Bool
   pub node : ℕ → Node
 
--- "Word 1: single flags. The highest bit belongs to variable 0." A variable, a procedure or a node that the words have no place for is
--- not flagged, has body 0, is all 0.
+-- "Word 1: single flags. The highest bit belongs to variable 0." A variable or a procedure that the words have no place for is not
+-- flagged and has body 0. A node past the last is whatever words follow; in a table that passes question 4 none do, and it is all 0.
 unfoldable pub decode : List ℕ → Program
 decode table =
     let procedures = wordAt table 0 / 2 ^ 17 % 32 in
@@ -178,6 +178,40 @@ onCollective (latch a b) meet other = other
 onCollective (collective k) meet other = meet k
 onCollective leave meet other = other
 
+-- what is said of an if, of a while and of a call, and of any other statement
+abbrev pub onBranch : {A : Type 0} → Statement → (ℕ → ℕ → ℕ → A) → A → A
+onBranch nothing choose other = other
+onBranch (assign a b) choose other = other
+onBranch (sequence a b) choose other = other
+onBranch (branch a b c) choose other = choose a b c
+onBranch (loop a b) choose other = other
+onBranch (call p) choose other = other
+onBranch (latch a b) choose other = other
+onBranch (collective k) choose other = other
+onBranch leave choose other = other
+
+abbrev pub onLoop : {A : Type 0} → Statement → (ℕ → ℕ → A) → A → A
+onLoop nothing repeat other = other
+onLoop (assign a b) repeat other = other
+onLoop (sequence a b) repeat other = other
+onLoop (branch a b c) repeat other = other
+onLoop (loop a b) repeat other = repeat a b
+onLoop (call p) repeat other = other
+onLoop (latch a b) repeat other = other
+onLoop (collective k) repeat other = other
+onLoop leave repeat other = other
+
+abbrev pub onCall : {A : Type 0} → Statement → (ℕ → A) → A → A
+onCall nothing enter other = other
+onCall (assign a b) enter other = other
+onCall (sequence a b) enter other = other
+onCall (branch a b c) enter other = other
+onCall (loop a b) enter other = other
+onCall (call p) enter other = enter p
+onCall (latch a b) enter other = other
+onCall (collective k) enter other = other
+onCall leave enter other = other
+
 -- kind 26
 abbrev pub isLeave : Statement → Bool
 isLeave nothing = false
@@ -189,3 +223,33 @@ isLeave (call p) = false
 isLeave (latch a b) = false
 isLeave (collective k) = false
 isLeave leave = true
+
+-- what a field stands for: a variable, a procedure, a gathered area, or a part of the sort named
+pub data Operand : Type 0 where
+  variableOperand procedureOperand areaOperand expressionOperand statementOperand : ℕ → Operand
+
+-- the fields that a node names, in the order A, B, C: the first so many. A constant has a value in B and C and no operand.
+abbrev pub expressionOperands : Expression → List Operand
+expressionOperands (constant v) = []
+expressionOperands (variable a) = variableOperand a ∷ []
+expressionOperands ownNumber = []
+expressionOperands processCount = []
+expressionOperands (door a) = expressionOperand a ∷ []
+expressionOperands (slot a r) = expressionOperand a ∷ areaOperand r ∷ []
+expressionOperands (operation o a b) = expressionOperand a ∷ expressionOperand b ∷ []
+
+abbrev pub collectiveOperands : Collective → List Operand
+collectiveOperands barrier = []
+collectiveOperands (broadcast a b c) = variableOperand a ∷ expressionOperand b ∷ expressionOperand c ∷ []
+collectiveOperands (exchange a r) = expressionOperand a ∷ areaOperand r ∷ []
+
+abbrev pub statementOperands : Statement → List Operand
+statementOperands nothing = []
+statementOperands (assign a b) = variableOperand a ∷ expressionOperand b ∷ []
+statementOperands (sequence a b) = statementOperand a ∷ statementOperand b ∷ []
+statementOperands (branch a b c) = expressionOperand a ∷ statementOperand b ∷ statementOperand c ∷ []
+statementOperands (loop a b) = expressionOperand a ∷ statementOperand b ∷ []
+statementOperands (call p) = procedureOperand p ∷ []
+statementOperands (latch a b) = expressionOperand a ∷ expressionOperand b ∷ []
+statementOperands (collective k) = collectiveOperands k
+statementOperands leave = []

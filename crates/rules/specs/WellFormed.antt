@@ -1,6 +1,8 @@
 -- Questions 2 to 12 and 26: is the table well formed? They are asked by the checker, a start and a step alike.
 use mathlib.Core.Bool.{Bool, true, false, cond, not, _&&_, _||_}
 use mathlib.Core.List.{List, [], _∷_, _++_}
+use mathlib.Core.Logic.{_⊎_}
+use mathlib.Core.Path.{_≡_}
 use Prim.Native.Nat.{ℕ, zero, suc, _+_, _-_, _*_, _%_, _^_}
 use lib.Dec.{leb, ltb, eqb}
 use lib.ListN.{length, getD}
@@ -11,10 +13,10 @@ use Rattle.rules.specs.Below.{atNode}
 use Rattle.rules.specs.Choice.{allBelow, firstFailing}
 use Rattle.rules.specs.Table.{Program, decode, wordAt, edition, variables, procedures, nodes, procedureWord, body, nodeAt}
 use Rattle.rules.specs.Table.{lastExpression, firstStatement, lastStatement, gatheredAreas}
-use Rattle.rules.specs.Table.{Expression, constant, variable, ownNumber, processCount, door, slot, operation}
+use Rattle.rules.specs.Table.{Expression, expressionOf, expressionAt, expressionOperands}
 use Rattle.rules.specs.Table.{Statement, nothing, assign, sequence, branch, loop, call, latch, collective, leave}
-use Rattle.rules.specs.Table.{Collective, barrier, broadcast, exchange}
-use Rattle.rules.specs.Table.{expressionAt, statementAt, isLeave}
+use Rattle.rules.specs.Table.{statementOf, statementAt, statementOperands, onLoop, onCall, isLeave}
+use Rattle.rules.specs.Table.{Operand, variableOperand, procedureOperand, areaOperand, expressionOperand, statementOperand}
 
 -- two words, 16 procedures and 256 nodes
 abbrev pub mostTableBytes : ℕ
@@ -68,22 +70,17 @@ kindKnown program n = isExpression program n || isStatement program n
 abbrev pub question7 : Program → Verdict
 question7 program = askEach 7 (nodes program) (kindKnown program)
 
--- how many of the fields A, B, C a kind names: the first so many, kinds 5 and 25 the roster "in field B". Kind 0 names B and C
--- instead.
-unfoldable pub namedFields : ℕ → ℕ
-namedFields kind =
-    getD
-    (0 ∷ 1 ∷ 0 ∷ 0 ∷ 1 ∷ 2 ∷ 2 ∷ 2 ∷ 2 ∷ 2 ∷ 2 ∷ 2 ∷ 2 ∷ 0 ∷ 0 ∷ 0 ∷ 0 ∷ 2 ∷ 2 ∷ 3 ∷ 2 ∷ 1 ∷ 2 ∷ 0 ∷ 3 ∷ 2 ∷ 0 ∷ [])
-    kind
-    0
+-- how many of the fields A, B, C a node names: the first so many. Kind 0 names B and C instead.
+unfoldable pub namedFields : Node → ℕ
+namedFields m = length (expressionOperands (expressionOf m)) + length (statementOperands (statementOf m))
 
 -- 8: "Are unnamed fields zero?"
 unfoldable pub unnamedZero : Node → Bool
 unnamedZero m =
     cond (eqb (m .kind) 0) (eqb (m .a) 0)
-    ((leb 1 (namedFields (m .kind)) || eqb (m .a) 0)
-    && (leb 2 (namedFields (m .kind)) || eqb (m .b) 0)
-    && (leb 3 (namedFields (m .kind)) || eqb (m .c) 0))
+    ((leb 1 (namedFields m) || eqb (m .a) 0)
+    && (leb 2 (namedFields m) || eqb (m .b) 0)
+    && (leb 3 (namedFields m) || eqb (m .c) 0))
 
 abbrev pub question8 : Program → Verdict
 question8 program = askEach 8 (nodes program) (λ n. unnamedZero (nodeAt program n))
@@ -96,31 +93,23 @@ expressionPart program n a = ltb a n && isExpression program a
 unfoldable pub statementPart : Program → ℕ → ℕ → Bool
 statementPart program n a = ltb a n && isStatement program a
 
-unfoldable pub expressionFits : Program → ℕ → Expression → Bool
-expressionFits program n (constant v) = true
-expressionFits program n (variable a) = ltb a (variables program)
-expressionFits program n ownNumber = true
-expressionFits program n processCount = true
-expressionFits program n (door a) = expressionPart program n a
-expressionFits program n (slot a r) = expressionPart program n a && ltb r gatheredAreas
-expressionFits program n (operation o a b) = expressionPart program n a && expressionPart program n b
+abbrev pub operandFits : Program → ℕ → Operand → Bool
+operandFits program n (variableOperand a) = ltb a (variables program)
+operandFits program n (procedureOperand p) = ltb p (procedures program)
+operandFits program n (areaOperand r) = ltb r gatheredAreas
+operandFits program n (expressionOperand a) = expressionPart program n a
+operandFits program n (statementOperand a) = statementPart program n a
 
-unfoldable pub collectiveFits : Program → ℕ → Collective → Bool
-collectiveFits program n barrier = true
-collectiveFits program n (broadcast a b c) =
-    ltb a (variables program) && expressionPart program n b && expressionPart program n c
-collectiveFits program n (exchange a r) = expressionPart program n a && ltb r gatheredAreas
+-- whether each operand of a list fits, and those before it did
+abbrev pub operandsFit : Program → ℕ → Bool → List Operand → Bool
+operandsFit program n before [] = before
+operandsFit program n before (operand ∷ rest) = operandsFit program n (before && operandFits program n operand) rest
+
+unfoldable pub expressionFits : Program → ℕ → Expression → Bool
+expressionFits program n e = operandsFit program n true (expressionOperands e)
 
 unfoldable pub statementFits : Program → ℕ → Statement → Bool
-statementFits program n nothing = true
-statementFits program n (assign a b) = ltb a (variables program) && expressionPart program n b
-statementFits program n (sequence a b) = statementPart program n a && statementPart program n b
-statementFits program n (branch a b c) = expressionPart program n a && statementPart program n b && statementPart program n c
-statementFits program n (loop a b) = expressionPart program n a && statementPart program n b
-statementFits program n (call p) = ltb p (procedures program)
-statementFits program n (latch a b) = expressionPart program n a && expressionPart program n b
-statementFits program n (collective k) = collectiveFits program n k
-statementFits program n leave = true
+statementFits program n s = operandsFit program n true (statementOperands s)
 
 unfoldable pub nodeFits : Program → ℕ → Bool
 nodeFits program n = expressionFits program n (expressionAt program n) && statementFits program n (statementAt program n)
@@ -133,30 +122,19 @@ abbrev pub question10 : Program → Verdict
 question10 program = askEach 10 (procedures program) (λ p. isStatement program (body program p))
 
 -- the parts of a node, in the order of its fields
-unfoldable pub expressionParts : Expression → List ℕ
-expressionParts (constant v) = []
-expressionParts (variable a) = []
-expressionParts ownNumber = []
-expressionParts processCount = []
-expressionParts (door a) = a ∷ []
-expressionParts (slot a r) = a ∷ []
-expressionParts (operation o a b) = a ∷ b ∷ []
+abbrev pub operandParts : List Operand → List ℕ
+operandParts [] = []
+operandParts (variableOperand a ∷ rest) = operandParts rest
+operandParts (procedureOperand p ∷ rest) = operandParts rest
+operandParts (areaOperand r ∷ rest) = operandParts rest
+operandParts (expressionOperand a ∷ rest) = a ∷ operandParts rest
+operandParts (statementOperand a ∷ rest) = a ∷ operandParts rest
 
-unfoldable pub collectiveParts : Collective → List ℕ
-collectiveParts barrier = []
-collectiveParts (broadcast a b c) = b ∷ c ∷ []
-collectiveParts (exchange a r) = a ∷ []
+unfoldable pub expressionParts : Expression → List ℕ
+expressionParts e = operandParts (expressionOperands e)
 
 unfoldable pub statementParts : Statement → List ℕ
-statementParts nothing = []
-statementParts (assign a b) = b ∷ []
-statementParts (sequence a b) = a ∷ b ∷ []
-statementParts (branch a b c) = a ∷ b ∷ c ∷ []
-statementParts (loop a b) = a ∷ b ∷ []
-statementParts (call p) = []
-statementParts (latch a b) = a ∷ b ∷ []
-statementParts (collective k) = collectiveParts k
-statementParts leave = []
+statementParts s = operandParts (statementOperands s)
 
 unfoldable pub partsAt : Program → ℕ → List ℕ
 partsAt program n = expressionParts (expressionAt program n) ++ statementParts (statementAt program n)
@@ -174,6 +152,11 @@ uses program = joined (partsAt program) (nodes program) ++ joined (λ p. body pr
 unfoldable pub occurrences : ℕ → List ℕ → ℕ
 occurrences n [] = 0
 occurrences n (x ∷ xs) = cond (eqb x n) 1 0 + occurrences n xs
+
+-- and that it stands there
+abbrev pub Occurs : ℕ → List ℕ → Type 0
+Occurs n [] = ⊥
+Occurs n (x ∷ xs) = (n ≡ x) ⊎ Occurs n xs
 
 -- 11: "Is each node used once, as a part or a body?"
 unfoldable pub usedOnce : Program → ℕ → Bool
@@ -197,15 +180,8 @@ inTree program n m = anywhere (partsAt program) (λ k. eqb k n) m
 
 -- the procedure that the statement at node n calls is below every procedure whose body's tree holds the node
 unfoldable pub calledBelow : Program → ℕ → Statement → Bool
-calledBelow program n nothing = true
-calledBelow program n (assign a b) = true
-calledBelow program n (sequence a b) = true
-calledBelow program n (branch a b c) = true
-calledBelow program n (loop a b) = true
-calledBelow program n (call q) = allBelow (λ p. not (inTree program n (body program p)) || ltb q p) (procedures program)
-calledBelow program n (latch a b) = true
-calledBelow program n (collective k) = true
-calledBelow program n leave = true
+calledBelow program n s =
+    onCall s (λ q. allBelow (λ p. not (inTree program n (body program p)) || ltb q p) (procedures program)) true
 
 -- 12: "Does each call name a procedure below its own?"
 abbrev pub question12 : Program → Verdict
@@ -229,15 +205,7 @@ openly program test m = anywhere (λ k. openParts (statementAt program k)) test 
 
 -- whether the statement is a while and node n stands "within the while's body, not in an inner while"
 unfoldable pub loopAround : Program → ℕ → Statement → Bool
-loopAround program n nothing = false
-loopAround program n (assign a b) = false
-loopAround program n (sequence a b) = false
-loopAround program n (branch a b c) = false
-loopAround program n (loop a b) = openly program (λ k. eqb k n) b
-loopAround program n (call p) = false
-loopAround program n (latch a b) = false
-loopAround program n (collective k) = false
-loopAround program n leave = false
+loopAround program n s = onLoop s (λ a b. openly program (λ k. eqb k n) b) false
 
 -- "the nearest while around it in the same procedure". By 11 there is one at most; the number of nodes stands for none.
 unfoldable pub nearestLoop : Program → ℕ → ℕ
@@ -250,6 +218,19 @@ leaveEnclosed program n = not (isLeave (statementAt program n)) || ltb (nearestL
 abbrev pub question26 : Program → Verdict
 question26 program = askEach 26 (nodes program) (leaveEnclosed program)
 
+-- the first of questions 7 to 12 that fails, and of those and 26: what is asked of the program, whatever it is laid out in
+abbrev pub builtBy : Program → Verdict
+builtBy program =
+    question7 program
+    then question8 program
+    then question9 program
+    then question10 program
+    then question11 program
+    then question12 program
+
+unfoldable pub formedBy : Program → Verdict
+formedBy program = builtBy program then question26 program
+
 -- the first of questions 2 to 12 that fails
 unfoldable pub wellBuilt : List ℕ → Verdict
 wellBuilt table =
@@ -258,12 +239,7 @@ wellBuilt table =
     then question4 table
     then question5 table
     then question6 table
-    then question7 (decode table)
-    then question8 (decode table)
-    then question9 (decode table)
-    then question10 (decode table)
-    then question11 (decode table)
-    then question12 (decode table)
+    then builtBy (decode table)
 
 -- the first of questions 2 to 12 and 26 that fails
 unfoldable pub wellFormed : List ℕ → Verdict

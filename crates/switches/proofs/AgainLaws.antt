@@ -21,7 +21,8 @@ use Rattle.rules.proofs.Formed.{Formed}
 use Rattle.rules.proofs.LeaveLaws.{counted-in}
 use Rattle.rules.proofs.LiveLaws.{counted-dead, effect-dead, leave-alive, live-up}
 use Rattle.rules.proofs.AnywhereLaws.{In}
-use Rattle.rules.proofs.LoopLaws.{in-counted, counted-append, joined-one, part-low, named-below, one-name, open-part, by-open}
+use Rattle.rules.proofs.LoopLaws.{in-counted, counted-append, joined-one, named-below, one-name, open-part, by-open}
+use Rattle.rules.proofs.PartLaws.{part-low}
 use Rattle.rules.proofs.VisibleLaws.{denied, contrary}
 use Rattle.sweep.specs.declared.Reached.{Reached}
 use Rattle.sweep.specs.Asked.{Filled}

@@ -21,7 +21,8 @@ use Rattle.rules.proofs.LeaveLaws.{Sorted, counted-in, expression-nothing, user
 use Rattle.rules.proofs.LiveLaws.{Never, never-live, live-up, live-part, live-body, branch-parts, branches-differ}
 use Rattle.rules.proofs.LiveLaws.{live-sequence, live-repeated, counted-live, counted-dead}
 use Rattle.rules.proofs.AnywhereLaws.{In, either-cases}
-use Rattle.rules.proofs.LoopLaws.{in-counted, open-part, body-part, part-low, named-below}
+use Rattle.rules.proofs.LoopLaws.{in-counted, open-part, body-part, named-below}
+use Rattle.rules.proofs.PartLaws.{part-low}
 use Rattle.rules.proofs.AnywhereLaws.{either-right}
 use Rattle.rules.proofs.VisibleLaws.{contrary}
 use Rattle.table.specs.Marks.{bitAt, withBits}

@@ -10,7 +10,7 @@ use Rattle.rules.specs.Table.{Program, nodes, nodeAt, statementOf, statementAt}
 use Rattle.rules.specs.WellFormed.{isExpression, statementPart}
 use Rattle.rules.proofs.Formed.{Formed}
 use Rattle.rules.proofs.KindLaws.{by-kind, sequence-of, branch-of, loop-of, statement-here, sequence-fields, branch-fields, loop-fields}
-use Rattle.rules.proofs.ValueLaws.{statement-part-below, expression-part-below, expression-part-sort}
+use Rattle.rules.proofs.PartLaws.{statement-part-below, expression-part-below, expression-part-sort}
 use Rattle.table.specs.Marks.{bitAt, withBits}
 use Rattle.switches.specs.Aside.{innerParts, neverOf, neverParts, asideMarks}
 

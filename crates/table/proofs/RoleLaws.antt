@@ -11,8 +11,8 @@ use borrow.Author.Tests.{ne-eqb}
 use lib.ListN.{getD, List·getD-eq-default}
 use Rattle.rules.specs.declared.Node.{Node}
 use Rattle.rules.specs.Table.{Program, constant, nothing, nodeAt, expressionOf, statementOf, expressionAt, statementAt}
-use Rattle.rules.specs.WellFormed.{namedFields, unnamedZero, expressionFits, collectiveFits, statementFits, nodeFits}
-use Rattle.rules.specs.WellFormed.{expressionParts, collectiveParts, statementParts, partsAt}
+use Rattle.rules.specs.WellFormed.{namedFields, unnamedZero, expressionFits, statementFits, nodeFits}
+use Rattle.rules.specs.WellFormed.{expressionParts, statementParts, partsAt}
 use Rattle.table.specs.Roles.{roles, roleOf, fieldZero, fieldFits, fieldParts}
 
 -- the kinds that the roles list: 0 to 26
@@ -60,11 +60,6 @@ role-unknown k place h =
     let none : getD roles k 0 ≡ 0 = List·getD-eq-default roles 0 {n = k} h in
     simp (none, zero-div)
 
-named-unknown : (k : ℕ) → listed ≤ k → namedFields k ≡ 0
-unfolding namedFields thirteen
-named-unknown k h =
-    let e : k ≡ suc (thirteen (thirteen (k - listed))) = omega arith in rw e
-
 -- question 8
 abbrev ZeroAt : ℕ → Type 0
 ZeroAt k =
@@ -72,7 +67,7 @@ ZeroAt k =
     → unnamedZero (node k a b c) ≡ (fieldZero (roleOf k 100) a && (fieldZero (roleOf k 10) b && fieldZero (roleOf k 1) c))
 
 zero-known : Each ZeroAt listed
-unfolding unnamedZero namedFields roleOf roles fieldZero
+unfolding unnamedZero namedFields expressionOf statementOf roleOf roles fieldZero
 zero-known =
     none also (λ a b c. simp and-true) also (λ a b c. refl) also (λ a b c. simp and-assoc)
     also (λ a b c. simp and-assoc) also (λ a b c. refl) also (λ a b c. refl) also (λ a b c. refl)
@@ -83,10 +78,18 @@ zero-known =
     also (λ a b c. simp and-assoc) also (λ a b c. refl) also (λ a b c. refl) also (λ a b c. simp and-assoc)
 
 zero-unknown : (k : ℕ) → listed ≤ k → ZeroAt k
-unfolding unnamedZero fieldZero
+unfolding unnamedZero namedFields fieldZero
 zero-unknown k h a b c =
     let other : eqb k 0 ≡ false = ne-eqb k 0 (λ e. omega arith) in
-    simp (other, named-unknown k h, role-unknown k 100 h, role-unknown k 10 h, role-unknown k 1 h, and-assoc)
+    simp (
+      other,
+      expression-unknown k a b c h,
+      statement-unknown k a b c h,
+      role-unknown k 100 h,
+      role-unknown k 10 h,
+      role-unknown k 1 h,
+      and-assoc,
+    )
 
 pub zero-law : (m : Node) → unnamedZero m
     ≡ (fieldZero (roleOf (m .kind) 100) (m .a)
@@ -102,7 +105,7 @@ module _ (program : Program) (n : ℕ) where
       ≡ (fieldFits program n (roleOf k 100) a && (fieldFits program n (roleOf k 10) b && fieldFits program n (roleOf k 1) c))
 
   fits-known : Each FitsAt listed
-  unfolding expressionOf statementOf expressionFits collectiveFits statementFits roleOf roles fieldFits
+  unfolding expressionOf statementOf expressionFits statementFits roleOf roles fieldFits
   fits-known =
       none also (λ a b c. refl) also (λ a b c. simp and-true) also (λ a b c. refl) also (λ a b c. refl)
       also (λ a b c. simp and-true) also (λ a b c. simp and-true)
@@ -138,7 +141,7 @@ PartsAt k =
     ≡ fieldParts (roleOf k 100) a ++ (fieldParts (roleOf k 10) b ++ fieldParts (roleOf k 1) c)
 
 parts-known : Each PartsAt listed
-unfolding expressionOf statementOf expressionParts collectiveParts statementParts roleOf roles fieldParts
+unfolding expressionOf statementOf expressionParts statementParts roleOf roles fieldParts
 parts-known =
     none also (λ a b c. refl) also (λ a b c. refl) also (λ a b c. refl) also (λ a b c. refl) also (λ a b c. refl)
     also (λ a b c. refl) also (λ a b c. refl) also (λ a b c. refl) also (λ a b c. refl) also (λ a b c. refl)

@@ -13,7 +13,7 @@ use Rattle.rules.specs.Table.{decode, lastExpression, Expression, nodeAt, expre
 use Rattle.rules.specs.WellFormed.{expressionPart}
 use Rattle.rules.proofs.Formed.{Formed, formed}
 use Rattle.rules.proofs.KindLaws.{door-of, slot-of, variable-field, slot-fields, first-part, second-part}
-use Rattle.rules.proofs.ValueLaws.{expression-part-below, expression-part-sort}
+use Rattle.rules.proofs.PartLaws.{expression-part-below, expression-part-sort}
 use Rattle.process.specs.Given.{operatorOf}
 use Rattle.process.proofs.ReadLaws.{readable}
 use Rattle.process.proofs.ExpressionLaws.{Packed, packed-here, kind-low, value-here, operator-of}

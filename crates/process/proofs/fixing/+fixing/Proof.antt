@@ -9,7 +9,7 @@ use Rattle.rules.specs.Table.{decode, lastExpression, nodeAt}
 use Rattle.rules.specs.WellFormed.{expressionPart}
 use Rattle.rules.proofs.Formed.{Formed, formed}
 use Rattle.rules.proofs.KindLaws.{first-part, second-part}
-use Rattle.rules.proofs.ValueLaws.{expression-part-below, expression-part-sort}
+use Rattle.rules.proofs.PartLaws.{expression-part-below, expression-part-sort}
 use Rattle.process.specs.Fixed.{fixedAs}
 use Rattle.process.proofs.ReadLaws.{readable}
 use Rattle.process.proofs.ExpressionLaws.{Packed, packed-here, kind-low}
