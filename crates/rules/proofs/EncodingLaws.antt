@@ -1,8 +1,8 @@
 -- What is written is read; and what the flags do not touch.
-use mathlib.Core.Bool.{Bool, true, false, cond, not, _&&_}
+use mathlib.Core.Bool.{Bool, true, false, _&&_}
 use mathlib.Core.List.{List, _++_}
 use mathlib.Core.Logic.{⊎-elim}
-use mathlib.Core.Path.{_≡_, refl, sym, _∙_, ap, fun-ext}
+use mathlib.Core.Path.{_≡_, refl, sym, _∙_, ap}
 use Prim.Native.Nat.{ℕ, zero, suc, _+_, _-_, _*_, _/_, _%_, _^_, _≤_, _<_}
 use native.Mathlib.Decide.{decLt}
 use native.Mathlib.Nat.{div-div-eq-div-mul}
@@ -13,13 +13,11 @@ use lib.Seq.{getD-append-add}
 use borrow.Author.Tests.{lt-ltb, le-ltb, leb-true}
 use Rattle.rules.specs.declared.Node.{Node}
 use Rattle.rules.specs.declared.Verdict.the-variants.{Accepted}
-use Rattle.rules.specs.Choice.{firstFailing, allBelow}
 use Rattle.rules.specs.Encoding.{wordBytes, headerWord, flagBits, bodyWord, packed, wordOf, encode, Encodable, DecodeEncode, reflagged}
 use Rattle.rules.specs.Evaluation.{bit}
 use Rattle.rules.specs.Judgement.{fixing, deadIn, live, counted}
 use Rattle.rules.specs.Table.{Program, decode, wordAt, procedureWord, unpacked}
 use Rattle.rules.specs.Table.{variables, procedures, nodes, flagged, body, effectFlag, nodeAt, expressionAt, statementAt}
-use Rattle.rules.specs.Table.{Statement, nothing, assign, sequence, branch, loop, call, latch, collective, leave}
 use Rattle.rules.specs.WellFormed.{joined, isExpression, isStatement, kindKnown, partsAt, loopAround, nearestLoop, wellFormed}
 use Rattle.rules.proofs.AnswerLaws.{both-right}
 use Rattle.rules.proofs.AnywhereLaws.{either-cases}
@@ -269,42 +267,12 @@ encodable table e =
       nodes-past = shape .past;
     }
 
--- other flags leave all that is said of a program's shape and values as it is
+-- other flags leave what is said of a program's loops and of what counts as it is
 module _ (program : Program) (flags effects : ℕ → Bool) where
-  around-same : (n : ℕ) (s : Statement) → loopAround (reflagged program flags effects) n s ≡ loopAround program n s
-  unfolding reflagged loopAround statementAt nodeAt
-  around-same n nothing = refl
-  around-same n (assign a b) = refl
-  around-same n (sequence a b) = refl
-  around-same n (branch a b c) = refl
-  around-same n (loop a b) = refl
-  around-same n (call p) = refl
-  around-same n (latch a b) = refl
-  around-same n (collective k) = refl
-  around-same n leave = refl
-
   pub reflagged-loop : nearestLoop (reflagged program flags effects) ≡ nearestLoop program
-  unfolding reflagged nearestLoop statementAt nodeAt nodes
-  reflagged-loop =
-      fun-ext (λ n. ap (λ (test : ℕ → Bool). firstFailing test (nodes program)) (fun-ext (λ w. ap not (around-same n (statementAt program w)))))
-
-  dead-same : (n : ℕ) (s : Statement) → deadIn (reflagged program flags effects) n s ≡ deadIn program n s
-  unfolding reflagged deadIn fixing partsAt expressionAt statementAt nodeAt
-  dead-same n nothing = refl
-  dead-same n (assign a b) = refl
-  dead-same n (sequence a b) = refl
-  dead-same n (branch a b c) = refl
-  dead-same n (loop a b) = refl
-  dead-same n (call p) = refl
-  dead-same n (latch a b) = refl
-  dead-same n (collective k) = refl
-  dead-same n leave = refl
-
-  pub reflagged-live : live (reflagged program flags effects) ≡ live program
-  unfolding reflagged live statementAt nodeAt nodes
-  reflagged-live =
-      fun-ext (λ n. ap (λ (test : ℕ → Bool). allBelow test (nodes program)) (fun-ext (λ m. ap not (dead-same n (statementAt program m)))))
+  unfolding reflagged nearestLoop loopAround statementAt nodeAt nodes
+  reflagged-loop = refl
 
   pub reflagged-counted : counted (reflagged program flags effects) ≡ counted program
-  unfolding reflagged counted statementAt nodeAt
-  reflagged-counted = fun-ext (λ n. ap (λ l. cond (l n) (statementAt program n) nothing) reflagged-live)
+  unfolding reflagged counted live deadIn fixing partsAt expressionAt statementAt nodeAt nodes
+  reflagged-counted = refl

@@ -1,6 +1,7 @@
 -- The definitions that a reader must believe: a file a chapter of the rules paper, in its order. "The paper" in the comments
--- is the rules paper; a quotation is the sentence that the definition stands for. Four are no chapters of it: Scheduling is request
--- U4, and by Buffered, Scratch and Switches claims of requests U3, U5 and U7 are stated.
+-- is the rules paper; a quotation is the sentence that the definition stands for. Six are no chapters of it: Scheduling is request
+-- U4; by Buffered, Scratch and Switches claims of requests U3, U5 and U7 are stated; Encoding writes a table, and Alike says which
+-- tables no call can tell apart.
 pub mod Choice
 pub mod Below
 pub mod Answers
