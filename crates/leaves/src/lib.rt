@@ -6,8 +6,9 @@ ghost use mathlib.Core.Path.{_≡_};
 ghost use Prim.Native.Nat.{_%_, _<_, _≤_};
 ghost use lib.ListN.{length};
 ghost use Rattle.leaves.specs.Leaves.{leftPlane, eitherBit, Joined, NodePassed, NodesPassed, Cleared, LeavesPassed};
-ghost use Rattle.loops.specs.Built.{Built};
 ghost use Rattle.rules.specs.Table.{decode, nodes, statementAt};
+ghost use Rattle.rules.specs.WellFormed.{wellBuilt};
+ghost use Rattle.table.specs.Header.{Passing};
 ghost use Rattle.table.specs.Marks.{bitAt, withBit};
 ghost use Rattle.visit.specs.Facts.{NotedTo};
 ghost use Rattle.visit.specs.Fields.{factsPlane, leavesPlane, allPlanes, planeWords};
@@ -113,7 +114,7 @@ fn left_by_leave(planes: &[u32], n: usize, b: u32) -> usize
 }
 
 fn pass_node(table: &[u8], header: Header, planes: &mut [u32], n: usize) -> usize
-    requires { ⌜ Built (now table) header × (n < nodes (decode (now table))) × (length (now planes) ≡ allPlanes) ⌝ }
+    requires { ⌜ Passing wellBuilt (now table) header × (n < nodes (decode (now table))) × (length (now planes) ≡ allPlanes) ⌝ }
     ensures { λ r. ⌜ NodePassed (decode (now (table .entry))) n (now (planes .entry)) (now (planes .exit)) r ⌝ }
 {
     let kind = kind_at(table, header, n);
@@ -150,7 +151,8 @@ pub fn pass_nodes(
     first: usize,
     end: usize,
 ) -> usize
-    requires { ⌜ Built (now table) header × (start ≤ none) × (length (now planes) ≡ allPlanes) × (first ≤ end) × (end ≤ nodes (decode (now table))) ⌝ }
+    requires { ⌜ Passing wellBuilt (now table) header × (start ≤ none) × (length (now planes) ≡ allPlanes) × (first ≤ end)
+        × (end ≤ nodes (decode (now table))) ⌝ }
     ensures { λ r. ⌜ NodesPassed (decode (now (table .entry))) first end start (now (planes .entry)) (now (planes .exit)) r ⌝ }
 {
     let mut least = start;
@@ -174,7 +176,7 @@ pub fn clear_leaves(planes: &mut [u32])
 
 // The least refusal once 16 is asked of whiles that are left locally; which nodes hold a leave is kept.
 pub fn pass_leaves(table: &[u8], header: Header, planes: &mut [u32], rule: usize) -> usize
-    requires { ⌜ Built (now table) header × (rule ≤ none) × (length (now planes) ≡ allPlanes) ⌝ }
+    requires { ⌜ Passing wellBuilt (now table) header × (rule ≤ none) × (length (now planes) ≡ allPlanes) ⌝ }
     requires { ⌜ NotedTo (decode (now table)) (nodes (decode (now table))) (leavesPlane (now planes)) ⌝ }
     ensures { λ r. ⌜ LeavesPassed (decode (now (table .entry))) (statementAt (decode (now (table .entry)))) rule (now (planes .entry)) (now (planes .exit)) r ⌝ }
 {

@@ -5,10 +5,10 @@ ghost use mathlib.Core.Path.{_≡_};
 ghost use Prim.Native.Nat.{_%_, _<_};
 ghost use lib.ListN.{length};
 ghost use Rattle.leaves.specs.Leaves.{HeldTo};
-ghost use Rattle.loops.specs.Built.{Built};
 ghost use Rattle.rules.specs.Choice.{firstFailing, allBelow};
 ghost use Rattle.rules.specs.Table.{decode, procedures, nodes, body, statementAt};
-ghost use Rattle.rules.specs.WellFormed.{leaveEnclosed};
+ghost use Rattle.rules.specs.WellFormed.{leaveEnclosed, wellBuilt};
+ghost use Rattle.table.specs.Header.{Passing};
 ghost use Rattle.table.specs.Marks.{bitAt};
 ghost use Rattle.visit.specs.Fields.{leavesPlane, allPlanes};
 use crate::holds;
@@ -18,7 +18,7 @@ use table::words::body;
 use table::words::kind_at;
 
 fn bodies_closed(table: &[u8], header: Header, planes: &[u32]) -> bool
-    requires { ⌜ Built (now table) header × (length (now planes) ≡ allPlanes) ⌝ }
+    requires { ⌜ Passing wellBuilt (now table) header × (length (now planes) ≡ allPlanes) ⌝ }
     ensures { λ r. ⌜ r ≡ allBelow (λ p. not (bitAt (leavesPlane (now (planes .entry))) (body (decode (now (table .entry))) p % 256)))
         (procedures (decode (now (table .entry)))) ⌝ }
 {
@@ -34,7 +34,7 @@ fn bodies_closed(table: &[u8], header: Header, planes: &[u32]) -> bool
 }
 
 fn enclosed(table: &[u8], header: Header, n: usize) -> bool
-    requires { ⌜ Built (now table) header × (n < nodes (decode (now table))) ⌝ }
+    requires { ⌜ Passing wellBuilt (now table) header × (n < nodes (decode (now table))) ⌝ }
     ensures { λ r. ⌜ r ≡ leaveEnclosed (decode (now (table .entry))) n ⌝ }
 {
     if kind_at(table, header, n) != 26 {
@@ -44,7 +44,7 @@ fn enclosed(table: &[u8], header: Header, n: usize) -> bool
 }
 
 fn first_open(table: &[u8], header: Header) -> usize
-    requires { ⌜ Built (now table) header ⌝ }
+    requires { ⌜ Passing wellBuilt (now table) header ⌝ }
     ensures { λ r. ⌜ r ≡ firstFailing (leaveEnclosed (decode (now (table .entry)))) (nodes (decode (now (table .entry)))) ⌝ }
 {
     let count = header.nodes;
@@ -60,7 +60,7 @@ fn first_open(table: &[u8], header: Header) -> usize
 
 // The first leave with no while around it, in a table whose nodes are all visited.
 pub fn first_loose(table: &[u8], header: Header, planes: &[u32]) -> usize
-    requires { ⌜ Built (now table) header × (length (now planes) ≡ allPlanes) ⌝ }
+    requires { ⌜ Passing wellBuilt (now table) header × (length (now planes) ≡ allPlanes) ⌝ }
     requires { ⌜ HeldTo (decode (now table)) (statementAt (decode (now table))) (nodes (decode (now table))) (leavesPlane (now planes)) ⌝ }
     ensures { λ r. ⌜ r ≡ firstFailing (leaveEnclosed (decode (now (table .entry)))) (nodes (decode (now (table .entry)))) ⌝ }
 {

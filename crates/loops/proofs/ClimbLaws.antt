@@ -14,7 +14,7 @@ use Rattle.rules.proofs.KindLaws.{statement-here}
 use Rattle.rules.proofs.AnywhereLaws.{In}
 use Rattle.rules.proofs.LoopLaws.{open-part, body-part, named-below, nearest-part, nearest-body, nearest-none}
 use Rattle.rules.proofs.PartLaws.{part-low}
-use Rattle.loops.specs.Built.{hasBody, hasPart}
+use Rattle.loops.specs.Upward.{hasBody, hasPart}
 use Rattle.loops.proofs.KindTests.{part-of, no-part, body-of, no-body}
 
 -- node k does not have node a as a part in the same while, nor as a while's body

@@ -15,7 +15,7 @@ use Rattle.rules.proofs.KindLaws.{sequence-of, branch-of, loop-of, by-kind}
 use Rattle.rules.proofs.AnywhereLaws.{In, either-cases}
 use Rattle.rules.proofs.AnywhereLaws.{either-right}
 use Rattle.rules.proofs.VisibleLaws.{contrary}
-use Rattle.loops.specs.Built.{hasBody, hasPart}
+use Rattle.loops.specs.Upward.{hasBody, hasPart}
 
 -- one of two parts
 pair-in : (a b n : ℕ) → (eqb a n || eqb b n) ≡ true → In n (a ∷ b ∷ [])

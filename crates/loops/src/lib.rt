@@ -4,8 +4,9 @@ ghost use mathlib.Core.Bool.{cond};
 ghost use mathlib.Core.Path.{_≡_};
 ghost use Prim.Native.Nat.{_<_};
 ghost use Rattle.rules.specs.Table.{decode, nodes};
-ghost use Rattle.rules.specs.WellFormed.{nearestLoop};
-ghost use Rattle.loops.specs.Built.{Built, hasBody, hasPart, hasLeave};
+ghost use Rattle.rules.specs.WellFormed.{nearestLoop, wellBuilt};
+ghost use Rattle.table.specs.Header.{Passing};
+ghost use Rattle.loops.specs.Upward.{hasBody, hasPart, hasLeave};
 use rules::Node;
 use table::Header;
 use table::words::kind_at;
@@ -39,7 +40,7 @@ fn outward(node: Node, m: usize, n: usize) -> usize
 // "the nearest while around it in the same procedure", or the number of nodes. Parts lie below the node that names them, so one
 // pass up the nodes meets what names a node after it.
 pub fn nearest_loop(table: &[u8], header: Header, n: usize) -> usize
-    requires { ⌜ Built (now table) header × (n < nodes (decode (now table))) ⌝ }
+    requires { ⌜ Passing wellBuilt (now table) header × (n < nodes (decode (now table))) ⌝ }
     ensures { λ r. ⌜ r ≡ nearestLoop (decode (now (table .entry))) n ⌝ }
 {
     let count = header.nodes;
@@ -58,7 +59,7 @@ pub fn nearest_loop(table: &[u8], header: Header, n: usize) -> usize
 
 // Whether the table has a leave.
 pub fn has_leave(table: &[u8], header: Header) -> bool
-    requires { ⌜ Built (now table) header ⌝ }
+    requires { ⌜ Passing wellBuilt (now table) header ⌝ }
     ensures { λ r. ⌜ r ≡ hasLeave (decode (now (table .entry))) ⌝ }
 {
     let nodes = header.nodes;

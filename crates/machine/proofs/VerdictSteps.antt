@@ -21,8 +21,7 @@ use Rattle.rules.specs.Step.{teamVerdict, stepVerdict, stepTaken, steppedBy, st
 use Rattle.rules.specs.WellFormed.{wellFormed}
 use Rattle.rules.proofs.AnswerLaws.{both-left, both-right, then-first, then-rest, then-assoc, ask-holds, each-passed}
 use Rattle.table.specs.declared.Header.{Header}
-use Rattle.table.specs.Header.{headerOf}
-use Rattle.process.specs.Given.{Read}
+use Rattle.table.specs.Header.{headerOf, Passing}
 use Rattle.machine.specs.Layout.{Startable, Starts}
 use Rattle.questions.specs.Asked.{Team}
 use Rattle.machine.specs.Outcomes.{Asked, Ready, Gives}
@@ -69,7 +68,7 @@ module _ (table state roll : List ℕ) (p : ℕ) where
       question-21 : (eqb (length roll) (arrivalSize * processesIn roll) && leb 1 (processesIn roll) && leb (processesIn roll) mostProcesses) ≡ true
       question-21 = ask-holds 21 _ (then-first (question21 (processesIn roll) roll) (question20 (processesIn roll) state) sized)
 
-      pub team-of : {header : Header} → Read table header → Team table header state roll (processesIn roll)
+      pub team-of : {header : Header} → Passing wellFormed table header → Team table header state roll (processesIn roll)
       team-of r =
           let n = processesIn roll in
           let front = both-left (eqb (length roll) (arrivalSize * n) && leb 1 n) (leb n mostProcesses) question-21 in
@@ -99,7 +98,7 @@ module _ (table state roll : List ℕ) (p : ℕ) where
         let each = askEach 23 (processesIn roll) (processFits (decode table) state roll) in
         record {
           team = team-of asked-formed (then-first (sizes state roll) _ after-form)
-              (record { well-formed = asked-formed; headed = h });
+              (record { passed = asked-formed; headed = h });
           within = ltb-true p (processesIn roll)
               (holds-so (ltb p (processesIn roll)) (record { number = 22; place = p })
               (then-first (question22 (processesIn roll) p) _ after-sizes));

@@ -1,6 +1,5 @@
 -- Laws that several proofs of this crate and of those above it use.
 pub mod NumberLaws
-pub mod ReadLaws
 pub mod ExpressionLaws
 pub mod FixingLaws
 pub mod StackedLaws

@@ -10,13 +10,14 @@ use Rattle.rules.specs.declared.Node.{Node}
 use Rattle.rules.specs.Process.{variablePlaces, stackPlaces, environment, depth, top, needsPlace}
 use Rattle.rules.specs.Table.{Program, decode}
 use Rattle.rules.specs.Table.{procedures, nodes, body, unpacked, statementAt, statementOf, Statement, loop}
-use Rattle.rules.specs.WellFormed.{isStatement, expressionPart}
+use Rattle.rules.specs.WellFormed.{isStatement, expressionPart, wellFormed}
 use Rattle.rules.proofs.Formed.{Formed, formed, exact}
 use Rattle.rules.proofs.KindLaws.{sequence-of, loop-of, statement-here}
 use Rattle.rules.proofs.KindLaws.{assign-fields, branch-fields, loop-fields, call-field, latch-fields}
 use Rattle.rules.proofs.PartLaws.{expression-part-below, expression-part-sort}
+use Rattle.table.specs.Header.{Passing}
 use Rattle.table.specs.declared.Header.{Header}
-use Rattle.process.specs.Given.{Read, Given, Stacked, Part, Topped, Turn}
+use Rattle.process.specs.Given.{Given, Stacked, Part, Topped, Turn}
 
 -- a node past the last is no statement
 pub statement-below : (program : Program) → Formed program → (n : ℕ) → isStatement program n ≡ true → n < nodes program
@@ -35,7 +36,7 @@ statement-below program formed n e =
 module _ {table : List ℕ} {header : Header} {words : List ℕ} {count : ℕ} {m : Node}
     (t : Topped table header words count m) where
   pub top-formed : Formed (decode table)
-  top-formed = formed table (t .given .read .well-formed)
+  top-formed = formed table (t .given .read .passed)
 
   top-below : top words < nodes (decode table)
   top-below = statement-below (decode table) top-formed (top words) (t .statement)
@@ -84,7 +85,7 @@ module _ {table : List ℕ} {header : Header} {words : List ℕ} {own count : �
   called e = call-field (decode table) shape (top words) m (t .topped .here) e
 
   pub turn-call : m .kind ≡ 21 → Stacked words × (4 * (2 + m .a) + 3 < length table) × (m .a < procedures (decode table))
-  turn-call e = (t .topped .stacked, omega (arith, called e, exact table (t .topped .given .read .well-formed), shape .nodes-low), called e)
+  turn-call e = (t .topped .stacked, omega (arith, called e, exact table (t .topped .given .read .passed), shape .nodes-low), called e)
 
   pub turn-body : m .kind ≡ 21 → body (decode table) (m .a) < 256
   turn-body e = omega (arith, shape .body-below (m .a) (called e), shape .nodes-high)
@@ -94,5 +95,5 @@ module _ {table : List ℕ} {header : Header} {words : List ℕ} {own count : �
       let f = latch-fields (decode table) shape (top words) m (t .topped .here) e in
       (t .topped .given, t .topped .stacked, top-part (t .topped) (f .0), top-part (t .topped) (f .1))
 
-  pub turn-leave : Read table header × Stacked words × (top words < nodes (decode table))
+  pub turn-leave : Passing wellFormed table header × Stacked words × (top words < nodes (decode table))
   turn-leave = (t .topped .given .read, t .topped .stacked, top-below (t .topped))

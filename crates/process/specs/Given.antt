@@ -11,18 +11,12 @@ use Rattle.rules.specs.Table.{Program, decode, nodes, nodeAt, statementAt}
 use Rattle.rules.specs.Table.{Operator, sum, difference, product, quotient, less, equal, both}
 use Rattle.rules.specs.WellFormed.{wellFormed, isExpression, isStatement}
 use Rattle.rules.specs.Process.{stackPlaces, processWords, mostProcesses, environment, depth, top, needsPlace}
-use Rattle.rules.specs.declared.Verdict.the-variants.{Accepted}
-use Rattle.table.specs.Header.{headerOf}
+use Rattle.table.specs.Header.{Passing}
 use Rattle.table.specs.declared.Header.{Header}
 
--- a well-formed table with its header
-pub record Read (table : List ℕ) (header : Header) : Type 0 where
-  pub well-formed : wellFormed table ≡ Accepted
-  pub headed : header ≡ headerOf table
-
--- such a table, one process's words, and a count of processes
+-- a well-formed table with its header, one process's words, and a count of processes
 pub record Given (table : List ℕ) (header : Header) (words : List ℕ) (count : ℕ) : Type 0 where
-  pub read : Read table header
+  pub read : Passing wellFormed table header
   pub sized : length words ≡ processWords
   pub few : count ≤ mostProcesses
 

@@ -2,8 +2,10 @@
 ghost use mathlib.Core.Path.{_≡_};
 ghost use Rattle.rules.specs.Judgement.{fixing};
 ghost use Rattle.process.specs.Fixed.{fixedAs};
-ghost use Rattle.process.specs.Given.{Read, Part};
+ghost use Rattle.process.specs.Given.{Part};
 ghost use Rattle.rules.specs.Table.{decode};
+ghost use Rattle.rules.specs.WellFormed.{wellFormed};
+ghost use Rattle.table.specs.Header.{Passing};
 use crate::Fixed;
 use crate::evaluation::apply;
 use crate::evaluation::constant;
@@ -12,7 +14,7 @@ use table::words::node_at;
 
 // Calls itself on the parts, which lie below the node: the node number falls.
 pub fn fixing(table: &[u8], header: Header, n: usize) -> Fixed
-    requires { ⌜ Read (now table) header × Part (decode (now table)) n ⌝ }
+    requires { ⌜ Passing wellFormed (now table) header × Part (decode (now table)) n ⌝ }
     ensures { λ r. ⌜ fixedAs r ≡ fixing (decode (now (table .entry))) n ⌝ }
 {
     let node = node_at(table, header, n);

@@ -9,8 +9,9 @@ ghost use Rattle.rules.specs.Evaluation.{value};
 ghost use Rattle.rules.specs.Process.{variablePlaces, latchPlaces, stackPlaces, latchesAt, processWords};
 ghost use Rattle.rules.specs.Process.{processAt, environment, depth, top, popped, replaced, pushed, unwound, advanced, needsPlace};
 ghost use Rattle.rules.specs.Table.{decode, Statement, procedures, nodes, body, statementAt};
-ghost use Rattle.rules.specs.WellFormed.{nearestLoop};
-ghost use Rattle.process.specs.Given.{Read, Given, Stacked, Part, isCollective, Turn};
+ghost use Rattle.rules.specs.WellFormed.{nearestLoop, wellFormed};
+ghost use Rattle.table.specs.Header.{Passing};
+ghost use Rattle.process.specs.Given.{Given, Stacked, Part, isCollective, Turn};
 use crate::evaluation::value_at;
 use loops::nearest_loop;
 use rules::Node;
@@ -168,7 +169,7 @@ fn unwind(words: &mut [u32], w: u32)
 
 // "ends the nearest while around it in the same procedure"
 fn leave(table: &[u8], header: Header, words: &mut [u32])
-    requires { ⌜ Read (now table) header × Stacked (now words) × (top (now words) < nodes (decode (now table))) ⌝ }
+    requires { ⌜ Passing wellFormed (now table) header × Stacked (now words) × (top (now words) < nodes (decode (now table))) ⌝ }
     ensures { λ _. ⌜ now (words .exit)
         ≡ unwound (nearestLoop (decode (now (table .entry))) (top (now (words .entry)))) (depth (now (words .entry))) (now (words .entry)) ⌝ }
 {

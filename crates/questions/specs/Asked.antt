@@ -9,12 +9,13 @@ use Rattle.rules.specs.Arrivals.{arrivalSize}
 use Rattle.rules.specs.Process.{stackPlaces, processWords, mostProcesses, depth}
 use Rattle.rules.specs.Step.{stackFits, recordFits}
 use Rattle.table.specs.declared.Header.{Header}
-use Rattle.process.specs.Given.{Read}
 use Rattle.rules.specs.Table.{Program}
+use Rattle.rules.specs.WellFormed.{wellFormed}
+use Rattle.table.specs.Header.{Passing}
 
 -- a well-formed table with its header, and a state and a roll of `count` processes
 pub record Team (table : List ℕ) (header : Header) (state roll : List ℕ) (count : ℕ) : Type 0 where
-  pub read : Read table header
+  pub read : Passing wellFormed table header
   pub some : 1 ≤ count
   pub few : count ≤ mostProcesses
   pub stated : length state ≡ processWords * count

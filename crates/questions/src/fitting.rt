@@ -9,8 +9,9 @@ ghost use Rattle.rules.specs.Choice.{firstFailing, allBelow};
 ghost use Rattle.rules.specs.Process.{stackAt, stackPlaces, processWords, depth, top};
 ghost use Rattle.rules.specs.Step.{stackFits, fieldsZero, lackedZero, waitFits, leaveFits, recordFits, processFits};
 ghost use Rattle.rules.specs.Table.{decode, statementOf, statementAt, onCollective, isLeave};
-ghost use Rattle.rules.specs.WellFormed.{isStatement};
-ghost use Rattle.process.specs.Given.{Read, Stacked};
+ghost use Rattle.rules.specs.WellFormed.{isStatement, wellFormed};
+ghost use Rattle.table.specs.Header.{Passing};
+ghost use Rattle.process.specs.Given.{Stacked};
 ghost use Rattle.questions.specs.Asked.{wordsFit};
 use loops::nearest_loop;
 use meeting::arrivals::node_of;
@@ -34,7 +35,7 @@ use table::words::node_at;
 pub(crate) const MOST_DEPTH: u32 = STACK_PLACES as u32;
 
 fn is_statement(table: &[u8], header: Header, n: usize) -> bool
-    requires { ⌜ Read (now table) header ⌝ }
+    requires { ⌜ Passing wellFormed (now table) header ⌝ }
     ensures { λ r. ⌜ r ≡ isStatement (decode (now (table .entry))) n ⌝ }
 {
     if n >= header.nodes {
@@ -49,7 +50,8 @@ fn is_statement(table: &[u8], header: Header, n: usize) -> bool
 
 // "each stack entry below depth a statement". Two entries a turn: with one, the turn itself is a third of the time.
 fn stack_fits(table: &[u8], header: Header, words: &[u32]) -> bool
-    requires { ⌜ Read (now table) header × (length (now words) ≡ processWords) × (depth (now words) ≤ stackPlaces) ⌝ }
+    requires { ⌜ Passing wellFormed (now table) header × (length (now words) ≡ processWords)
+        × (depth (now words) ≤ stackPlaces) ⌝ }
     ensures { λ r. ⌜ r ≡ stackFits (decode (now (table .entry))) (now (words .entry)) ⌝ }
 {
     let depth = words[DEPTH_AT] as usize;
@@ -106,7 +108,7 @@ fn lacked_zero(roll: &[u32], p: usize, node: Node) -> bool
 }
 
 fn wait_fits(table: &[u8], header: Header, words: &[u32], roll: &[u32], p: usize) -> bool
-    requires { ⌜ Read (now table) header × Stacked (now words) × (arrivalSize * p + 3 < length (now roll))
+    requires { ⌜ Passing wellFormed (now table) header × Stacked (now words) × (arrivalSize * p + 3 < length (now roll))
         × (isStatement (decode (now table)) (top (now words)) ≡ true) ⌝ }
     ensures { λ r. ⌜ r ≡ waitFits (decode (now (table .entry))) (now (words .entry)) (now (roll .entry)) p ⌝ }
 {
@@ -136,7 +138,8 @@ fn lies_below(words: &[u32], w: usize) -> bool
 }
 
 pub fn leave_on_top(table: &[u8], header: Header, words: &[u32]) -> bool
-    requires { ⌜ Read (now table) header × Stacked (now words) × (isStatement (decode (now table)) (top (now words)) ≡ true) ⌝ }
+    requires { ⌜ Passing wellFormed (now table) header × Stacked (now words)
+        × (isStatement (decode (now table)) (top (now words)) ≡ true) ⌝ }
     ensures { λ r. ⌜ r ≡ isLeave (statementAt (decode (now (table .entry))) (top (now (words .entry)))) ⌝ }
 {
     let n = top(words) as usize;
@@ -146,7 +149,8 @@ pub fn leave_on_top(table: &[u8], header: Header, words: &[u32]) -> bool
 // "A made-up stack with a leave on top and that while not below is number 23." Apart from the test above, which is short enough
 // to stand in the callers.
 pub fn leave_fits(table: &[u8], header: Header, words: &[u32]) -> bool
-    requires { ⌜ Read (now table) header × Stacked (now words) × (isStatement (decode (now table)) (top (now words)) ≡ true)
+    requires { ⌜ Passing wellFormed (now table) header × Stacked (now words)
+        × (isStatement (decode (now table)) (top (now words)) ≡ true)
         × (isLeave (statementAt (decode (now table)) (top (now words))) ≡ true) ⌝ }
     ensures { λ r. ⌜ r ≡ leaveFits (decode (now (table .entry))) (now (words .entry)) ⌝ }
 {
@@ -154,7 +158,7 @@ pub fn leave_fits(table: &[u8], header: Header, words: &[u32]) -> bool
 }
 
 fn record_fits(table: &[u8], header: Header, words: &[u32], roll: &[u32], p: usize) -> bool
-    requires { ⌜ Read (now table) header × (length (now words) ≡ processWords) × (depth (now words) ≤ stackPlaces)
+    requires { ⌜ Passing wellFormed (now table) header × (length (now words) ≡ processWords) × (depth (now words) ≤ stackPlaces)
         × (arrivalSize * p + 3 < length (now roll)) × (stackFits (decode (now table)) (now words) ≡ true) ⌝ }
     ensures { λ r. ⌜ r ≡ recordFits (decode (now (table .entry))) (now (words .entry)) (now (roll .entry)) p ⌝ }
 {
@@ -186,7 +190,8 @@ fn record_fits(table: &[u8], header: Header, words: &[u32], roll: &[u32], p: usi
 
 // Question 23 of one process's words.
 fn words_fit(table: &[u8], header: Header, words: &[u32], roll: &[u32], p: usize) -> bool
-    requires { ⌜ Read (now table) header × (length (now words) ≡ processWords) × (arrivalSize * p + 3 < length (now roll)) ⌝ }
+    requires { ⌜ Passing wellFormed (now table) header × (length (now words) ≡ processWords)
+        × (arrivalSize * p + 3 < length (now roll)) ⌝ }
     ensures { λ r. ⌜ r ≡ wordsFit (decode (now (table .entry))) (now (words .entry)) (now (roll .entry)) p ⌝ }
 {
     if words[DEPTH_AT] > MOST_DEPTH {
@@ -200,7 +205,8 @@ fn words_fit(table: &[u8], header: Header, words: &[u32], roll: &[u32], p: usize
 
 // "for 23 and 24 the first bank failing"
 pub fn first_unfit(table: &[u8], header: Header, state: &[u32], roll: &[u32], count: usize) -> usize
-    requires { ⌜ Read (now table) header × (length (now state) ≡ processWords * count) × (length (now roll) ≡ arrivalSize * count) ⌝ }
+    requires { ⌜ Passing wellFormed (now table) header × (length (now state) ≡ processWords * count)
+        × (length (now roll) ≡ arrivalSize * count) ⌝ }
     ensures { λ r. ⌜ r ≡ firstFailing (processFits (decode (now (table .entry))) (now (state .entry)) (now (roll .entry))) count ⌝ }
 {
     let mut p = 0;

@@ -85,7 +85,7 @@ module _ {table : List ℕ} {header : Header} {count turns : ℕ} {end : Served}
       sized : TeamSized table state roll count
       sized =
           record {
-            formed = b .team .read .well-formed;
+            formed = b .team .read .passed;
             count-low = b .team .some;
             count-high = b .team .few;
             state-sized = b .team .stated;

@@ -28,7 +28,7 @@ use Rattle.rules.proofs.ArrivalLaws.{each-arrival-length}
 use Rattle.rules.proofs.ChoiceLaws.{bool-cases, first-none, all-true, all-at}
 use Rattle.rules.proofs.CollectiveLaws.{completed-length, completed-at}
 use Rattle.rules.proofs.EntryLaws.{Statements, each-kept, each-popped, statements-fit, statements-advanced}
-use Rattle.loops.specs.Built.{hasLeave}
+use Rattle.loops.specs.Upward.{hasLeave}
 use Rattle.loops.proofs.BuiltLaws.{no-leave-at}
 use Rattle.rules.proofs.Formed.{Formed, formed, statement-past}
 use Rattle.rules.proofs.HomeLaws.{stores-low}
@@ -123,7 +123,7 @@ module _ {table : List ℕ} {header : Header} {state roll : List ℕ} {count p :
 
   next-statements : Statements (decode table) next
   next-statements =
-      statements-advanced (decode table) (formed table (r .team .read .well-formed)) words (stacked .sized) (statements p (r .within)) (stacked .held)
+      statements-advanced (decode table) (formed table (r .team .read .passed)) words (stacked .sized) (statements p (r .within)) (stacked .held)
       (environment words p count) (ready-place r runs)
 
   abbrev moved-state : List ℕ
@@ -227,7 +227,7 @@ module _ {table : List ℕ} {header : Header} {state roll : List ℕ} {count p :
     met-statements : (q : ℕ) → q < count → Statements (decode table) (processAt met-state q)
     met-statements q l =
         let before = processAt state q in
-        let low = stores-low (decode table) (formed table (r .team .read .well-formed)) (top words) k e in
+        let low = stores-low (decode table) (formed table (r .team .read .passed)) (top words) k e in
         let sized = process-length state count q (r .team .stated) l in
         rw (met-words q l)
         (each-popped (λ n i. isStatement (decode table) n ≡ true) (received arrived-roll count k q before)
@@ -329,4 +329,4 @@ module _ {table : List ℕ} {header : Header} {state roll : List ℕ} {count p :
         rw (as-taken .left, as-taken .written)
         (sym
         (first-none (processFits (decode table) (stepTaken (decode table) state roll count p .state) (stepTaken (decode table) state roll count p .roll)) count
-        (λ q l. leaves .but-leaves q l (rw (no-leave-at (decode table) (formed table (r .team .read .well-formed)) none _)))))
+        (λ q l. leaves .but-leaves q l (rw (no-leave-at (decode table) (formed table (r .team .read .passed)) none _)))))

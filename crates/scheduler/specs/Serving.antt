@@ -15,9 +15,10 @@ use Rattle.rules.specs.Run.{Team}
 use Rattle.rules.specs.Scheduling.{someRuns, nextProcess, Served}
 use Rattle.rules.specs.Step.{Outcome, leaveFits, processFits}
 use Rattle.rules.specs.Table.{Program, decode, nodes, statementAt, isLeave}
-use Rattle.rules.specs.WellFormed.{isStatement}
+use Rattle.rules.specs.WellFormed.{isStatement, wellFormed}
+use Rattle.table.specs.Header.{Passing}
 use Rattle.table.specs.declared.Header.{Header}
-use Rattle.process.specs.Given.{Read, Stacked}
+use Rattle.process.specs.Given.{Stacked}
 use Rattle.scheduler.specs.declared.Service.{Service}
 
 abbrev pub service : ℕ → ℕ → Verdict → Service
@@ -52,7 +53,7 @@ LeftBy Waiting program state roll count p = Fit program state roll count
 LeftBy Ended program state roll count p = Fit program state roll count
 
 pub record Turned (table : List ℕ) (header : Header) (state roll : List ℕ) (count p : ℕ) (event : Event) : Type 0 where
-  pub read : Read table header
+  pub read : Passing wellFormed table header
   pub stated : length state ≡ processWords * count
   pub rolled : length roll ≡ arrivalSize * count
   pub within : p < count

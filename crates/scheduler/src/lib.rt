@@ -4,7 +4,7 @@ ghost use mathlib.Core.Bool.{true, false};
 ghost use mathlib.Core.Path.{_≡_};
 ghost use Prim.Native.Nat.{_+_, _*_, _%_, _<_};
 ghost use lib.ListN.{length};
-ghost use Rattle.loops.specs.Built.{hasLeave};
+ghost use Rattle.loops.specs.Upward.{hasLeave};
 ghost use Rattle.rules.specs.declared.Verdict.the-variants.{Accepted};
 ghost use Rattle.rules.specs.Arrivals.{arrivalSize, running, statusAt};
 ghost use Rattle.rules.specs.Scheduling.{serving, served};

@@ -19,7 +19,7 @@ use Rattle.rules.specs.WellFormed.{question26}
 use Rattle.rules.proofs.AnswerLaws.{both-right, then-first, then-rest, each-passed}
 use Rattle.rules.proofs.ChoiceLaws.{first-none}
 use Rattle.table.specs.declared.Header.{Header}
-use Rattle.table.specs.Header.{headerOf}
+use Rattle.table.specs.Header.{Passing}
 use Rattle.table.specs.Sized.{Sized, shapeVerdict}
 use Rattle.table.specs.Uses.{Fitting}
 use Rattle.table.proofs.FittingLaws.{fitting}
@@ -109,14 +109,14 @@ module _ {table : List ℕ} {header : Header} (filled : Filled table header) (re
       (judged-least (decode table) reading (omega (arith, sized .nodes-high)) (omega (arith, sized .procedures-high)) .0)
 
 -- a well-formed table passes 2 to 11
-pub well-filled : {table : List ℕ} {header : Header} → wellFormed table ≡ Accepted → header ≡ headerOf table → Filled table header
+pub well-filled : {table : List ℕ} {header : Header} → Passing wellFormed table header → Filled table header
 unfolding asked
-well-filled {table} well headed =
+well-filled {table} read =
     let parts : (shapeVerdict table then (filledVerdict table then callsAsked false (decode table))) ≡ Accepted =
-    sym (in-parts false table) ∙ rw well refl in
+    sym (in-parts false table) ∙ rw (read .passed) refl in
     let shaped = then-first (shapeVerdict table) (filledVerdict table then callsAsked false (decode table)) parts in
     record {
-      sized = rw headed (sized table shaped);
+      sized = rw (read .headed) (sized table shaped);
       shaped = shaped;
       passed =
           then-first (filledVerdict table) (callsAsked false (decode table))

@@ -3,9 +3,10 @@ ghost use mathlib.Core.Path.{_≡_};
 ghost use Prim.Native.Nat.{_≤_, _<_};
 ghost use lib.ListN.{length, replicate};
 ghost use Rattle.leaves.specs.Leaves.{leftPlane, LeavesPassed};
-ghost use Rattle.process.specs.Given.{Read};
 ghost use Rattle.rules.specs.Judgement.{counted};
 ghost use Rattle.rules.specs.Table.{decode, nodes};
+ghost use Rattle.rules.specs.WellFormed.{wellFormed};
+ghost use Rattle.table.specs.Header.{Passing};
 ghost use Rattle.switches.specs.Again.{Stretch, Beside, VisitedTo, Onward, PassesOn};
 ghost use Rattle.switches.specs.Aside.{fourPlanes, workPlanes, asidePlane};
 ghost use Rattle.visit.specs.Fields.{leavesPlane, planeWords, allPlanes};
@@ -38,7 +39,8 @@ fn stretch_end(planes: &[u32], n: usize, count: usize) -> usize
 
 // The stretch that begins at the next node, or that node alone if it is set aside.
 fn visit_stretch(table: &[u8], header: Header, planes: &mut [u32], from: Reached) -> Reached
-    requires { ⌜ Read (now table) header × (from .node < nodes (decode (now table))) × Beside (decode (now table)) (now planes)
+    requires { ⌜ Passing wellFormed (now table) header × (from .node < nodes (decode (now table)))
+        × Beside (decode (now table)) (now planes)
         × VisitedTo (decode (now table)) (from .node) (workPlanes (now planes)) (from .rule) ⌝ }
     ensures { λ r. ⌜ Onward (decode (now (table .entry))) from r × Beside (decode (now (table .entry))) (now (planes .exit))
         × VisitedTo (decode (now (table .entry))) (r .node) (workPlanes (now (planes .exit))) (r .rule) ⌝ }
@@ -62,7 +64,8 @@ fn visit_stretch(table: &[u8], header: Header, planes: &mut [u32], from: Reached
 
 // The least refusal of 13 to 16 at the nodes that count, as far as that does not look at leaves; their facts are kept.
 pub(crate) fn visit_again(table: &[u8], header: Header, planes: &mut [u32]) -> usize
-    requires { ⌜ Read (now table) header × Beside (decode (now table)) (now planes) × (workPlanes (now planes) ≡ replicate allPlanes 0) ⌝ }
+    requires { ⌜ Passing wellFormed (now table) header × Beside (decode (now table)) (now planes)
+        × (workPlanes (now planes) ≡ replicate allPlanes 0) ⌝ }
     ensures { λ r. ⌜ Beside (decode (now (table .entry))) (now (planes .exit))
         × VisitedTo (decode (now (table .entry))) (nodes (decode (now (table .entry)))) (workPlanes (now (planes .exit))) r ⌝ }
 {
@@ -79,7 +82,8 @@ pub(crate) fn visit_again(table: &[u8], header: Header, planes: &mut [u32]) -> u
 
 // The same for what the nodes hold of leaves.
 fn pass_stretch(table: &[u8], header: Header, planes: &mut [u32], from: Reached) -> Reached
-    requires { ⌜ Read (now table) header × (from .node < nodes (decode (now table))) × Beside (decode (now table)) (now planes) × (from .rule ≤ none) ⌝ }
+    requires { ⌜ Passing wellFormed (now table) header × (from .node < nodes (decode (now table)))
+        × Beside (decode (now table)) (now planes) × (from .rule ≤ none) ⌝ }
     ensures { λ r. ⌜ Onward (decode (now (table .entry))) from r × Beside (decode (now (table .entry))) (now (planes .exit))
         × PassesOn (decode (now (table .entry))) (workPlanes (now (planes .entry))) (workPlanes (now (planes .exit))) from r ⌝ }
 {
@@ -101,7 +105,7 @@ fn pass_stretch(table: &[u8], header: Header, planes: &mut [u32], from: Reached)
 
 // The least refusal once 16 is asked of whiles that are left locally and count, over planes that are cleared for it.
 pub(crate) fn pass_again(table: &[u8], header: Header, planes: &mut [u32], rule: usize) -> usize
-    requires { ⌜ Read (now table) header × Beside (decode (now table)) (now planes) × (rule ≤ none) ⌝ }
+    requires { ⌜ Passing wellFormed (now table) header × Beside (decode (now table)) (now planes) × (rule ≤ none) ⌝ }
     requires { ⌜ (leftPlane (workPlanes (now planes)) ≡ replicate planeWords 0) × (leavesPlane (workPlanes (now planes)) ≡ replicate planeWords 0) ⌝ }
     ensures { λ r. ⌜ Beside (decode (now (table .entry))) (now (planes .exit))
         × LeavesPassed (decode (now (table .entry))) (counted (decode (now (table .entry)))) rule (workPlanes (now (planes .entry))) (workPlanes (now (planes .exit))) r ⌝ }

@@ -5,8 +5,9 @@ ghost use mathlib.Core.Path.{_≡_};
 ghost use Prim.Native.Nat.{_<_};
 ghost use lib.Dec.{eqb};
 ghost use lib.ListN.{length, replicate};
-ghost use Rattle.process.specs.Given.{Read};
 ghost use Rattle.rules.specs.Table.{decode, nodes, statementAt};
+ghost use Rattle.rules.specs.WellFormed.{wellFormed};
+ghost use Rattle.table.specs.Header.{Passing};
 ghost use Rattle.switches.specs.Aside.{innerParts, neverParts, asideMarks, Aside};
 ghost use Rattle.table.specs.Marks.{withBits};
 ghost use Rattle.visit.specs.Fields.{planeWords};
@@ -29,7 +30,7 @@ fn set_both(aside: &mut [u32], x: u32, y: u32)
 
 // All statements that node n, which is set aside, has as parts.
 fn set_parts(table: &[u8], header: Header, aside: &mut [u32], n: usize)
-    requires { ⌜ Read (now table) header × (n < nodes (decode (now table))) × (length (now aside) ≡ planeWords) ⌝ }
+    requires { ⌜ Passing wellFormed (now table) header × (n < nodes (decode (now table))) × (length (now aside) ≡ planeWords) ⌝ }
     ensures { λ _. ⌜ now (aside .exit) ≡ withBits (now (aside .entry)) (innerParts (statementAt (decode (now (table .entry))) n)) ⌝ }
 {
     let node = node_at(table, header, n);
@@ -51,7 +52,7 @@ fn not_taken(value: u32, first: u32, second: u32) -> u32
 
 // Of node n, if it is an if with a fixed condition, the branch that will never be taken.
 fn set_branch(table: &[u8], header: Header, aside: &mut [u32], n: usize)
-    requires { ⌜ Read (now table) header × (n < nodes (decode (now table))) × (length (now aside) ≡ planeWords) ⌝ }
+    requires { ⌜ Passing wellFormed (now table) header × (n < nodes (decode (now table))) × (length (now aside) ≡ planeWords) ⌝ }
     ensures { λ _. ⌜ now (aside .exit) ≡ withBits (now (aside .entry)) (neverParts (decode (now (table .entry))) (statementAt (decode (now (table .entry))) n)) ⌝ }
 {
     let node = node_at(table, header, n);
@@ -66,7 +67,7 @@ fn set_branch(table: &[u8], header: Header, aside: &mut [u32], n: usize)
 
 // Most nodes are expressions, and no kind below 18 has a statement as a part.
 fn set_node(table: &[u8], header: Header, aside: &mut [u32], n: usize)
-    requires { ⌜ Read (now table) header × (n < nodes (decode (now table))) × (length (now aside) ≡ planeWords) ⌝ }
+    requires { ⌜ Passing wellFormed (now table) header × (n < nodes (decode (now table))) × (length (now aside) ≡ planeWords) ⌝ }
     ensures { λ _. ⌜ now (aside .exit) ≡ asideMarks (decode (now (table .entry))) n (now (aside .entry)) ⌝ }
 {
     if kind_at(table, header, n) < 18 {
@@ -80,7 +81,7 @@ fn set_node(table: &[u8], header: Header, aside: &mut [u32], n: usize)
 }
 
 pub(crate) fn set_aside(table: &[u8], header: Header, aside: &mut [u32])
-    requires { ⌜ Read (now table) header × (now aside ≡ replicate planeWords 0) ⌝ }
+    requires { ⌜ Passing wellFormed (now table) header × (now aside ≡ replicate planeWords 0) ⌝ }
     ensures { λ _. ⌜ Aside (decode (now (table .entry))) (now (aside .exit)) ⌝ }
 {
     let mut n = header.nodes;

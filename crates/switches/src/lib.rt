@@ -5,11 +5,11 @@ ghost use mathlib.Core.Bool.{_&&_};
 ghost use mathlib.Core.Path.{_≡_};
 ghost use lib.Dec.{leb};
 ghost use lib.ListN.{length, replicate};
-ghost use Rattle.process.specs.Given.{Read};
 ghost use Rattle.rules.specs.Acceptance.{judgedBy, judged};
 ghost use Rattle.rules.specs.Answers.{_then_};
 ghost use Rattle.rules.specs.Table.{decode, statementAt};
 ghost use Rattle.rules.specs.WellFormed.{wellFormed};
+ghost use Rattle.table.specs.Header.{Passing};
 ghost use Rattle.switches.specs.Again.{Beside};
 ghost use Rattle.switches.specs.Aside.{asidePlane, fourPlanes};
 ghost use Rattle.visit.specs.Fields.{planeWords};
@@ -45,7 +45,7 @@ fn by_rules(number: u32) -> bool
 
 // Questions 13 to 17 of a table that passes 2 to 12 and 26, where the statements of dead branches are set aside.
 fn judge_counted(table: &[u8], header: Header, planes: &mut [u32]) -> Verdict
-    requires { ⌜ Read (now table) header × Beside (decode (now table)) (now planes) ⌝ }
+    requires { ⌜ Passing wellFormed (now table) header × Beside (decode (now table)) (now planes) ⌝ }
     ensures { λ r. ⌜ r ≡ judged (decode (now (table .entry))) ⌝ }
 {
     clear(&mut planes[0..ASIDE]);
@@ -57,7 +57,8 @@ fn judge_counted(table: &[u8], header: Header, planes: &mut [u32]) -> Verdict
 
 // The same of one that gets the answer `whole` if every node counts, which stands where nothing is to be set aside.
 fn judge_again(table: &[u8], header: Header, planes: &mut [u32], whole: Verdict) -> Verdict
-    requires { ⌜ Read (now table) header × (length (now planes) ≡ fourPlanes) × (asidePlane (now planes) ≡ replicate planeWords 0)
+    requires { ⌜ Passing wellFormed (now table) header × (length (now planes) ≡ fourPlanes)
+        × (asidePlane (now planes) ≡ replicate planeWords 0)
         × (whole ≡ judgedBy (decode (now table)) (statementAt (decode (now table)))) ⌝ }
     ensures { λ r. ⌜ r ≡ judged (decode (now (table .entry))) ⌝ }
 {

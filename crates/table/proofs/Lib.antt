@@ -2,6 +2,7 @@
 pub mod TestLaws
 pub mod BitLaws
 pub mod ShapeLaws
+pub mod PassingLaws
 pub mod RoleLaws
 pub mod PlaceLaws
 pub mod UseLaws

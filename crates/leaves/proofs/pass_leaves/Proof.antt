@@ -1,7 +1,7 @@
 -- `pass_leaves` meets its contract: nothing is noted, or both planes are cleared first.
 use mathlib.Core.Path.{sym, _∙_}
 use native.Mathlib.Omega.{arith}
-use Rattle.loops.proofs.BuiltLaws.{built-formed, header-nodes}
+use Rattle.table.proofs.PassingLaws.{built-formed, header-nodes}
 use Rattle.leaves.proofs.PassLaws.{none-noted, passed-none, passed-all, passed-cleared}
 use Rattle.visit.proofs.FactLaws.{whole}
 use borrow.Author.Needs.{needs}

@@ -1,7 +1,7 @@
 -- `pass_node` meets its contract: each kind by its law.
 use mathlib.Core.Path.{refl, sym, _∙_}
 use native.Mathlib.Omega.{arith}
-use Rattle.loops.proofs.BuiltLaws.{built-formed, readable}
+use Rattle.table.proofs.PassingLaws.{built-formed, readable}
 use Rattle.leaves.proofs.PassLaws.{pass-other, pass-leave, pass-loop, pass-sequence, pass-branch}
 use borrow.Author.Needs.{needs}
 use Rattle.leaves.proofs.pass_node.Statement.{statement}

@@ -1,5 +1,5 @@
 -- `has_leave` meets its contract. The nodes passed are no leaves.
-use Rattle.loops.proofs.BuiltLaws.{readable, header-nodes}
+use Rattle.table.proofs.PassingLaws.{readable, header-nodes}
 use Rattle.rules.proofs.ChoiceLaws.{Passed, passed-none, passed-more, all-true, all-false}
 use Rattle.rules.proofs.KindLaws.{leave-of, no-leave}
 use Rattle.rules.specs.Table.{decode, nodes, nodeAt, statementAt, isLeave}

@@ -1,5 +1,5 @@
 -- `nearest_loop` meets its contract. The loop's invariant: `inner` has the same nearest while as n, and no node passed names it.
-use Rattle.loops.proofs.BuiltLaws.{built-formed, header-nodes, readable}
+use Rattle.table.proofs.PassingLaws.{built-formed, header-nodes, readable}
 use Rattle.loops.proofs.ClimbLaws.{Climbed, climb-start, climb-found, climb-on, climb-end}
 use borrow.Author.Needs.{needs}
 use native.Mathlib.Omega.{arith}

@@ -1,7 +1,7 @@
 -- `questions::place_lacked` meets its contract.
 use Rattle.questions.proofs.FittingLaws.{run-stacked, run-statement, run-topped}
 use Rattle.process.proofs.StatementLaws.{statement-below}
-use Rattle.process.proofs.ReadLaws.{readable, read-formed}
+use Rattle.table.proofs.PassingLaws.{readable, read-formed, read-built}
 use Rattle.rules.proofs.ProcessLaws.{process-length}
 use Rattle.rules.specs.Table.{decode, nodeAt}
 use Rattle.rules.specs.Step.{placeLacked}
@@ -63,7 +63,7 @@ node-at-requires c κs =
     let read = given .0 .read in
     let runs = sym (status-at .ensures) ∙ c .before .before .before .before .if1 .left in
     rw (c .top .ensures ∙ ap top (c .before .before .before .process-at .ensures))
-    (readable read (statement-below _ (read-formed read) _ (run-statement (given .0) (given .1) (given .2) runs)))
+    (readable (read-built read) (statement-below _ (read-formed read) _ (run-statement (given .0) (given .1) (given .2) runs)))
 
 cast-needs-place : tie.Need-cast-needs-place
 cast-needs-place c = search needs

@@ -1,8 +1,8 @@
 -- `scheduler::first_left` meets its contract, event by event.
 use Rattle.scheduler.specs.Serving.{unfitIn, MovedOn, LeftBy, Turned}
 use Rattle.table.specs.declared.Header.{Header}
-use Rattle.process.specs.Given.{Read, Stacked}
-use Rattle.rules.specs.WellFormed.{isStatement}
+use Rattle.process.specs.Given.{Stacked}
+use Rattle.rules.specs.WellFormed.{isStatement, wellFormed}
 use borrow.Author.Tests.{not-true, not-false}
 use denote.Ref.{now}
 use Rattle.rules.specs.declared.Event.{Event}
@@ -19,6 +19,7 @@ use mathlib.Core.Path.{_≡_, sym, _∙_, ap, subst}
 use Rattle.scheduler.proofs.first_left.Statement.{statement}
 use Rattle.scheduler.proofs.first_left.Tie as tie
 use Rattle.rules.specs.Table.{Program, decode}
+use Rattle.table.specs.Header.{Passing}
 
 -- what is left, by the event that the code has told
 told : {table : List ℕ} {header : Header} {state roll : List ℕ} {count p : ℕ} {e f : Event}
@@ -52,7 +53,8 @@ process-at-requires c κs = search needs
 
 -- what both tests of the leave are given
 on-top : (c : tie.After-process-at)
-    → Read (start (c .before) .args .table .now) (start (c .before) .args .header) × Stacked (now (c .process-at .result))
+    → Passing wellFormed (start (c .before) .args .table .now) (start (c .before) .args .header)
+    × Stacked (now (c .process-at .result))
     × (isStatement (decode (start (c .before) .args .table .now)) (top (now (c .process-at .result))) ≡ true)
 on-top c =
     let on = moved (c .before) in

@@ -1,5 +1,5 @@
 -- `scheduler::serve_asked` meets its contract. Between two turns, the call comes to what serving on from there comes to.
-use Rattle.process.proofs.ReadLaws.{read-built}
+use Rattle.table.proofs.PassingLaws.{read-built}
 use Rattle.scheduler.proofs.NextLaws.{none-runs, some-runs, next-is}
 use Rattle.scheduler.proofs.ServingSteps.{Between, begun, stops-used, stops-idle, stops-23, stops-24, asked-place, ready, goes-on}
 use Rattle.scheduler.specs.Serving.{teamOf}

@@ -38,7 +38,7 @@ pass-leaves-requires c κs =
     let kept = start .pre .1 in
     let passed = well-built filled (accepted12 (filled .sized) (called .first) (start .args .judged) (c .before .if1 .left)) in (
       (
-        record { well-built = passed; headed = filled .sized .read },
+        record { passed = passed; headed = filled .sized .read },
         omega (arith, kept .ruled .least, least-high (guardCode (decode (start .args .table .now)) (statementAt (decode (start .args .table .now)))) (nodes (decode (start .args .table .now)))),
         called .size,
       ),
@@ -53,7 +53,7 @@ first-loose-requires c κs =
     let called = walk .first-call .ensures in
     let passed = well-built filled (accepted12 (filled .sized) (called .first) (start .args .judged) (c .before .before .before .before .before .if1 .left)) in
     let leaves = c .before .before .before .pass-leaves .ensures in
-    ((record { well-built = passed; headed = filled .sized .read }, leaves .size), leaves .held)
+    ((record { passed = passed; headed = filled .sized .read }, leaves .size), leaves .held)
 
 cast-refused-2 : tie.Need-cast-refused-2
 cast-refused-2 c = search needs

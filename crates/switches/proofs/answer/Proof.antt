@@ -60,7 +60,7 @@ judge-again-requires c κs =
     let size = ap length (start .pre) in
     let words = swept .accepted .last .1 .0 in
     let many = swept .accepted .kept .1 .0 ∙ work-length planes size in (
-      record { well-formed = by-13-to-17 told .0; headed = c .before .header .ensures },
+      record { passed = by-13-to-17 told .0; headed = c .before .header .ensures },
       length-put-work planes size words many,
       aside-put-work planes size words many ∙ ap asidePlane (start .pre),
       by-13-to-17 told .1,

@@ -2,7 +2,7 @@
 use mathlib.Core.Path.{_≡_, sym, _∙_, ap}
 use native.Mathlib.Omega.{arith}
 use borrow.Rule.Slice.PartMut.{midOf, putMid}
-use Rattle.process.proofs.ReadLaws.{read-formed}
+use Rattle.table.proofs.PassingLaws.{read-formed}
 use Rattle.rules.specs.Acceptance.{judgedBy}
 use Rattle.table.proofs.BitLaws.{none-set}
 use Rattle.visit.specs.Fields.{planeWords, allPlanes}

@@ -91,7 +91,7 @@ unflagged-requires c κs =
     let passed = c .before .before .before .before in
     let read = start (passed .before .before .before .before .before .before .before .before) .pre .0 in
     let leaves = passed .pass-again .ensures .1 in
-    (well-filled (read .well-formed) (read .headed), leaves .size, leaves .high)
+    (well-filled read, leaves .size, leaves .high)
 
 verdict-requires : tie.Need-verdict-requires
 verdict-requires c κs = search needs
@@ -116,7 +116,7 @@ returns c =
     let facts : FactsTo (decode table) (counted (decode table)) (nodes (decode table)) (factsPlane (workPlanes (putMid 0 allPlanes planes words))) =
     rw (same, clear .facts) (known .ruled .facts) in
     c .verdict .ensures
-    ∙ judged-verdict (well-filled (read .well-formed) (read .headed)) (counted (decode table)) (each-counted (decode table)) (rw (leaves .facts) facts)
+    ∙ judged-verdict (well-filled read) (counted (decode table)) (each-counted (decode table)) (rw (leaves .facts) facts)
     (known .ruled .least) (leaves .least facts) (c .before .unflagged .ensures)
 
 pub judge-counted-spec : {M : Type 1} → statement M

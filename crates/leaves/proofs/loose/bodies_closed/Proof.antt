@@ -4,7 +4,7 @@ use mathlib.Core.Bool.{not}
 use mathlib.Core.Path.{_≡_, sym, _∙_, ap}
 use Prim.Native.Nat.{_-_, _%_, _≤_}
 use native.Mathlib.Omega.{arith}
-use Rattle.loops.proofs.BuiltLaws.{built-formed, header-procedures}
+use Rattle.table.proofs.PassingLaws.{built-formed, header-procedures}
 use Rattle.rules.specs.Table.{decode, procedures, body}
 use Rattle.rules.proofs.ChoiceLaws.{Passed, passed-none, passed-more, all-true, all-false}
 use Rattle.table.specs.Marks.{bitAt}
@@ -24,7 +24,7 @@ loop-holds c = (omega arith, passed-none _)
 body-requires : tie.Need-body-requires Inv-loop μ-loop
 body-requires c κs =
     let given = c .before .before .before .before .pre in
-    omega (arith, header-procedures (given .0), built-exact _ (given .0 .well-built))
+    omega (arith, header-procedures (given .0), built-exact _ (given .0 .passed))
 
 cast-holds : tie.Need-cast-holds Inv-loop μ-loop
 cast-holds c =

@@ -1,6 +1,6 @@
 -- `loose::enclosed` meets its contract.
 use mathlib.Core.Path.{sym, _∙_, ap}
-use Rattle.loops.proofs.BuiltLaws.{readable, header-nodes}
+use Rattle.table.proofs.PassingLaws.{readable, header-nodes}
 use Rattle.leaves.proofs.LooseLaws.{enclosed-other, enclosed-leave}
 use borrow.Author.Needs.{needs}
 use Rattle.leaves.proofs.loose.enclosed.Statement.{statement}

@@ -1,6 +1,6 @@
 -- `loose::first_loose` meets its contract.
 use mathlib.Core.Path.{sym, _∙_}
-use Rattle.loops.proofs.BuiltLaws.{built-formed, header-nodes}
+use Rattle.table.proofs.PassingLaws.{built-formed, header-nodes}
 use Rattle.leaves.proofs.LooseLaws.{none-loose}
 use borrow.Author.Needs.{needs}
 use Rattle.leaves.proofs.loose.first_loose.Statement.{statement}

@@ -3,7 +3,7 @@ use mathlib.Core.Path.{_≡_, sym, _∙_, ap}
 use Prim.Native.Nat.{_-_, _≤_}
 use native.Mathlib.Omega.{arith}
 use borrow.Author.Tests.{not-true, not-false}
-use Rattle.loops.proofs.BuiltLaws.{header-nodes}
+use Rattle.table.proofs.PassingLaws.{header-nodes}
 use Rattle.rules.specs.Table.{decode, nodes}
 use Rattle.rules.specs.WellFormed.{leaveEnclosed}
 use Rattle.rules.proofs.ChoiceLaws.{Passed, passed-none, passed-more, first-at, first-none}

@@ -32,7 +32,7 @@ cast-count c =
     let table = start c .args .table .now in
     let team = team-of table (start c .args .state .now) (start c .args .roll .now) (start c .args .process) (start c .pre)
     (sized c) {header = headerOf table}
-    (record { well-formed = start c .pre; headed = refl }) in
+    (record { passed = start c .pre; headed = refl }) in
     omega (arith, team .few)
 
 header-requires : tie.Need-header-requires
@@ -45,7 +45,7 @@ unfolding processesIn
 team-asked-requires c κs =
     let told = c .before in
     team-of _ _ _ (start told .args .process) (start told .pre) (sized told)
-    (record { well-formed = start told .pre; headed = c .header .ensures })
+    (record { passed = start told .pre; headed = c .header .ensures })
 
 returns : tie.Need-returns
 returns c =

@@ -2,7 +2,7 @@
 use Rattle.machine.proofs.OutcomeLaws.{run-alone, run-meets}
 use Rattle.machine.proofs.TeamLaws.{ready-stacked, ready-statement, ready-topped, ready-turn}
 use Rattle.process.proofs.StatementLaws.{statement-below}
-use Rattle.process.proofs.ReadLaws.{readable, read-formed}
+use Rattle.table.proofs.PassingLaws.{readable, read-formed, read-built}
 use Rattle.process.specs.Given.{isCollective}
 use Rattle.rules.specs.Table.{decode, nodeAt}
 use Rattle.rules.specs.Process.{processAt, top}
@@ -40,7 +40,7 @@ node-at-requires c κs =
     let given = c .before .before .before .before .before .before .pre in
     let read = given .0 .team .read in
     let at = c .top .ensures ∙ ap top (c .before .process-at .ensures) in
-    rw at (readable read (statement-below _ (read-formed read) _ (ready-statement (given .0) (given .1))))
+    rw at (readable (read-built read) (statement-below _ (read-formed read) _ (ready-statement (given .0) (given .1))))
 
 is-collective-requires : tie.Need-is-collective-requires
 is-collective-requires c κs = search needs

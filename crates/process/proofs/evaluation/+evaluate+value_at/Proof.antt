@@ -15,7 +15,7 @@ use Rattle.rules.proofs.Formed.{Formed, formed}
 use Rattle.rules.proofs.KindLaws.{door-of, slot-of, variable-field, slot-fields, first-part, second-part}
 use Rattle.rules.proofs.PartLaws.{expression-part-below, expression-part-sort}
 use Rattle.process.specs.Given.{operatorOf}
-use Rattle.process.proofs.ReadLaws.{readable}
+use Rattle.table.proofs.PassingLaws.{readable, read-built}
 use Rattle.process.proofs.ExpressionLaws.{Packed, packed-here, kind-low, value-here, operator-of}
 use Prim.Native.Nat.{ℕ, _+_, _*_, _<_, _≤_}
 use borrow.Fn.Kinds.{In}
@@ -104,7 +104,7 @@ abbrev env : (t : ℕ) → Read t → Environment
 env t c = environment (start t c .args .words .now) (start t c .args .own) (start t c .args .count)
 
 shape : (t : ℕ) → (c : Read t) → Formed (decode (table t c))
-shape t c = formed (table t c) (start t c .pre .1 .0 .read .well-formed)
+shape t c = formed (table t c) (start t c .pre .1 .0 .read .passed)
 
 low : (t : ℕ) → (c : Read t) → c .node-at .result .kind ≤ lastExpression
 low t c =
@@ -120,7 +120,7 @@ valued t c e same =
     (env t c) e same)
 
 evaluate-node-at-requires : (t : ℕ) → evaluate-lts.Need-node-at-requires (callees t) (evaluate-at t) evaluate.Post
-evaluate-node-at-requires t c κs = readable (c .before .before .pre .1 .0 .read) (c .before .before .pre .1 .1 .0)
+evaluate-node-at-requires t c κs = readable (read-built (c .before .before .pre .1 .0 .read)) (c .before .before .pre .1 .1 .0)
 
 evaluate-leaf-requires : (t : ℕ) → evaluate-lts.Need-leaf-requires (callees t) (evaluate-at t) evaluate.Post
 evaluate-leaf-requires t c κs =
@@ -222,10 +222,10 @@ abbrev begun : (t : ℕ) → Looked t → value-at-lts.Start (value-at-callees t
 begun t c = c .before .before .before
 
 looked-formed : (t : ℕ) → (c : Looked t) → Formed (decode (begun t c .args .table .now))
-looked-formed t c = formed (begun t c .args .table .now) (begun t c .pre .1 .0 .read .well-formed)
+looked-formed t c = formed (begun t c .args .table .now) (begun t c .pre .1 .0 .read .passed)
 
 value-at-node-at-requires : (t : ℕ) → value-at-lts.Need-node-at-requires (value-at-callees t) (value-at-at t) value-at.Post
-value-at-node-at-requires t c κs = readable (c .before .before .pre .1 .0 .read) (c .before .before .pre .1 .1 .0)
+value-at-node-at-requires t c κs = readable (read-built (c .before .before .pre .1 .0 .read)) (c .before .before .pre .1 .1 .0)
 
 value-at-leaf-requires : (t : ℕ) → value-at-lts.Need-leaf-requires (value-at-callees t) (value-at-at t) value-at.Post
 value-at-leaf-requires t c κs =

@@ -11,7 +11,7 @@ use Rattle.rules.proofs.Formed.{Formed, formed}
 use Rattle.rules.proofs.KindLaws.{first-part, second-part}
 use Rattle.rules.proofs.PartLaws.{expression-part-below, expression-part-sort}
 use Rattle.process.specs.Fixed.{fixedAs}
-use Rattle.process.proofs.ReadLaws.{readable}
+use Rattle.table.proofs.PassingLaws.{readable, read-built}
 use Rattle.process.proofs.ExpressionLaws.{Packed, packed-here, kind-low}
 use Rattle.process.proofs.FixingLaws.{fixed-constant, fixed-none, fixed-operation, first-unfixed, second-unfixed}
 use Prim.Native.Nat.{ℕ, _<_, _≤_}
@@ -59,7 +59,7 @@ abbrev table : (t : ℕ) → Looked t → List ℕ
 table t c = start t c .args .table .now
 
 shape : (t : ℕ) → (c : Looked t) → Formed (decode (table t c))
-shape t c = formed (table t c) (start t c .pre .1 .0 .well-formed)
+shape t c = formed (table t c) (start t c .pre .1 .0 .passed)
 
 low : (t : ℕ) → (c : Looked t) → c .node-at .result .kind ≤ lastExpression
 low t c =
@@ -67,7 +67,7 @@ low t c =
     (start t c .pre .1 .1 .1)
 
 node-at-requires : (t : ℕ) → lts.Need-node-at-requires (callees t) (given t) fixing.Post
-node-at-requires t c κs = readable (c .before .pre .1 .0) (c .before .pre .1 .1 .0)
+node-at-requires t c κs = readable (read-built (c .before .pre .1 .0)) (c .before .pre .1 .1 .0)
 
 constant-requires : (t : ℕ) → lts.Need-constant-requires (callees t) (given t) fixing.Post
 constant-requires t c κs =

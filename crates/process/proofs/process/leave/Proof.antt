@@ -1,6 +1,6 @@
 -- `process::process::leave` meets its contract.
 use Rattle.loops.proofs.BuiltLaws.{nearest-few}
-use Rattle.process.proofs.ReadLaws.{read-built}
+use Rattle.table.proofs.PassingLaws.{read-built}
 use native.Mathlib.Omega.{arith}
 use borrow.Author.Needs.{needs}
 use Rattle.process.proofs.process.leave.Statement.{statement}

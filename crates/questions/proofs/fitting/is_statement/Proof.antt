@@ -1,6 +1,6 @@
 -- `questions::fitting::is_statement` meets its contract.
 use Rattle.questions.proofs.QuestionLaws.{statement-past}
-use Rattle.process.proofs.ReadLaws.{readable, read-formed, header-nodes}
+use Rattle.table.proofs.PassingLaws.{readable, read-formed, header-nodes, read-built}
 use Rattle.rules.specs.WellFormed.{isStatement}
 use borrow.Author.Tests.{le-leb, lt-leb}
 use native.Mathlib.Omega.{arith}
@@ -16,7 +16,7 @@ returns c =
 node-at-requires : tie.Need-node-at-requires
 node-at-requires c κs =
     let given = c .before .before .before .pre in
-    readable given (omega (arith, header-nodes given))
+    readable (read-built given) (omega (arith, header-nodes given))
 
 returns-2 : tie.Need-returns-2
 unfolding isStatement

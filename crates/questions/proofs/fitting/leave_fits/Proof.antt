@@ -1,5 +1,5 @@
 -- `questions::fitting::leave_fits` meets its contract.
-use Rattle.process.proofs.ReadLaws.{read-formed, read-built}
+use Rattle.table.proofs.PassingLaws.{read-formed, read-built}
 use Rattle.process.proofs.StatementLaws.{statement-below}
 use Rattle.rules.specs.Step.{leaveFits}
 use borrow.Author.Needs.{needs}

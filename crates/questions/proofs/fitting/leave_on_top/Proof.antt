@@ -1,5 +1,5 @@
 -- `questions::fitting::leave_on_top` meets its contract.
-use Rattle.process.proofs.ReadLaws.{readable, read-formed}
+use Rattle.table.proofs.PassingLaws.{readable, read-formed, read-built}
 use Rattle.process.proofs.StatementLaws.{statement-below}
 use Rattle.rules.proofs.KindLaws.{leave-of, no-leave}
 use Rattle.rules.specs.declared.Node.{Node}
@@ -28,7 +28,7 @@ cast-n c = search needs
 kind-at-requires : tie.Need-kind-at-requires
 kind-at-requires c κs =
     let given = c .before .before .before .pre in
-    readable (given .0) (rw (c .top .ensures) (statement-below _ (read-formed (given .0)) _ (given .2)))
+    readable (read-built (given .0)) (rw (c .top .ensures) (statement-below _ (read-formed (given .0)) _ (given .2)))
 
 returns : tie.Need-returns
 unfolding statementAt

@@ -1,6 +1,6 @@
 -- `questions::fitting::wait_fits` meets its contract.
 use Rattle.process.proofs.StatementLaws.{statement-below}
-use Rattle.process.proofs.ReadLaws.{readable, read-formed}
+use Rattle.table.proofs.PassingLaws.{readable, read-formed, read-built}
 use Rattle.rules.specs.Table.{decode, nodeAt, statementAt, statementOf, onCollective}
 use Rattle.rules.specs.Step.{waitFits, lackedZero}
 use Rattle.rules.specs.Process.{top}
@@ -28,7 +28,7 @@ cast-node-at c = search needs
 node-at-requires : tie.Need-node-at-requires
 node-at-requires c κs =
     let given = c .before .before .before .before .before .before .pre in
-    rw (c .before .before .top .ensures) (readable (given .0) (statement-below _ (read-formed (given .0)) _ (given .3)))
+    rw (c .before .before .top .ensures) (readable (read-built (given .0)) (statement-below _ (read-formed (given .0)) _ (given .3)))
 
 lacked-zero-requires : tie.Need-lacked-zero-requires
 lacked-zero-requires c κs = search needs

@@ -7,7 +7,7 @@ use borrow.Author.Tests.{not-true}
 use Rattle.leaves.specs.Leaves.{PassedTo}
 use Rattle.leaves.proofs.PassLaws.{none-passed, passed-none, passed-all}
 use Rattle.loops.proofs.BuiltLaws.{no-leave-at}
-use Rattle.process.proofs.ReadLaws.{read-formed, read-built, header-nodes}
+use Rattle.table.proofs.PassingLaws.{read-formed, read-built, header-nodes}
 use Rattle.rules.specs.Judgement.{counted}
 use Rattle.rules.specs.Table.{decode, nodes}
 use Rattle.table.proofs.BitLaws.{bit-zero}

@@ -1,6 +1,6 @@
 -- `again::pass_stretch` meets its contract: a statement that is set aside is passed by, a stretch of other nodes is passed over.
 use native.Mathlib.Omega.{arith}
-use Rattle.process.proofs.ReadLaws.{read-formed, read-built, header-nodes}
+use Rattle.table.proofs.PassingLaws.{read-formed, read-built, header-nodes}
 use Rattle.switches.specs.Aside.{workPlanes}
 use Rattle.switches.proofs.AgainLaws.{stretch-within, stretch-counts, stretch-dead, passed-past, counting}
 use Rattle.switches.proofs.FourLaws.{work-length, work-put-work, beside-work}

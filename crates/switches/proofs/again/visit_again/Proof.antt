@@ -2,7 +2,7 @@
 use mathlib.Core.Path.{_≡_, sym, _∙_}
 use Prim.Native.Nat.{_-_, _≤_}
 use native.Mathlib.Omega.{arith}
-use Rattle.process.proofs.ReadLaws.{read-formed, header-nodes}
+use Rattle.table.proofs.PassingLaws.{read-formed, header-nodes}
 use Rattle.rules.specs.Table.{decode, nodes}
 use Rattle.switches.specs.Again.{Beside, VisitedTo}
 use Rattle.switches.specs.Aside.{workPlanes}

@@ -1,7 +1,7 @@
 -- `again::visit_stretch` meets its contract: a statement that is set aside is passed by, a stretch of other nodes is swept.
 use Prim.Native.Nat.{_≤_}
 use native.Mathlib.Omega.{arith}
-use Rattle.process.proofs.ReadLaws.{read-formed, header-nodes}
+use Rattle.table.proofs.PassingLaws.{read-formed, header-nodes}
 use Rattle.rules.specs.Judgement.{counted}
 use Rattle.sweep.proofs.FormedLaws.{well-filled}
 use Rattle.visit.specs.Facts.{guardCode}
@@ -70,7 +70,7 @@ sweep-quickly-requires c κs =
     let begun = start found in
     let (read, low, beside, so-far) = begun .pre in
     let stretch = found .stretch-end .ensures in (
-      well-filled (read .well-formed) (read .headed) .sized,
+      well-filled read .sized,
       omega (arith, stretch .from, stretch .to),
       omega (arith, stretch .to),
       work-length (begun .args .planes .now) (beside .size),
@@ -90,7 +90,7 @@ returns-2 c =
     let planes = begun .args .planes .now in
     let n = begun .args .from .node in
     let formed = read-formed read in
-    let filled = well-filled (read .well-formed) (read .headed) in
+    let filled = well-filled read in
     let stretch = found .stretch-end .ensures in
     let all = header-nodes read in
     let within = stretch-within (decode table) formed planes beside all stretch in

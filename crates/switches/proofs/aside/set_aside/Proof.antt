@@ -4,7 +4,7 @@ use mathlib.Core.Path.{_≡_, sym, _∙_, ap}
 use Prim.Native.Nat.{ℕ, _+_, _-_, _≤_}
 use native.Mathlib.Omega.{arith}
 use lib.ListN.{length, length-replicate}
-use Rattle.process.proofs.ReadLaws.{read-formed, header-nodes}
+use Rattle.table.proofs.PassingLaws.{read-formed, header-nodes}
 use Rattle.rules.specs.Table.{decode, nodes}
 use Rattle.switches.proofs.AsideLaws.{AsideTo, aside-none, aside-more, aside-all}
 use Rattle.switches.proofs.aside.set_aside.Statement.{statement}

@@ -5,7 +5,7 @@ use Prim.Native.Nat.{ℕ}
 use native.Mathlib.Omega.{arith}
 use lib.Dec.{eqb}
 use Rattle.process.specs.Fixed.{fixedAs}
-use Rattle.process.proofs.ReadLaws.{read-formed, readable}
+use Rattle.table.proofs.PassingLaws.{read-formed, readable, read-built}
 use Rattle.rules.specs.declared.Node.{Node}
 use Rattle.table.specs.Marks.{withBits}
 use Rattle.switches.proofs.PartsLaws.{branch-few, branch-test, branch-never, chosen-few, other-never}
@@ -18,7 +18,7 @@ abbrev start : tie.After-node-at → tie.Start
 start read = read .before .before .before
 
 node-at-requires : tie.Need-node-at-requires
-node-at-requires c κs = readable (c .before .before .pre .0) (c .before .before .pre .1)
+node-at-requires c κs = readable (read-built (c .before .before .pre .0)) (c .before .before .pre .1)
 
 returns : tie.Need-returns
 unfolding withBits

@@ -1,7 +1,7 @@
 -- `aside::set_node` meets its contract.
 use mathlib.Core.Path.{sym, _∙_}
 use native.Mathlib.Omega.{arith}
-use Rattle.process.proofs.ReadLaws.{read-formed, readable}
+use Rattle.table.proofs.PassingLaws.{read-formed, readable, read-built}
 use Rattle.switches.specs.Aside.{asideMarks}
 use Rattle.switches.proofs.PartsLaws.{plain-marks}
 use borrow.Author.Needs.{needs}
@@ -9,7 +9,7 @@ use Rattle.switches.proofs.aside.set_node.Statement.{statement}
 use Rattle.switches.proofs.aside.set_node.Tie as tie
 
 kind-at-requires : tie.Need-kind-at-requires
-kind-at-requires c κs = readable (c .before .before .pre .0) (c .before .before .pre .1)
+kind-at-requires c κs = readable (read-built (c .before .before .pre .0)) (c .before .before .pre .1)
 
 returns : tie.Need-returns
 returns c = sym (plain-marks _ _ _ (omega (arith, c .before .kind-at .ensures, c .if1 .taken)))

@@ -1,7 +1,7 @@
 -- `aside::set_parts` meets its contract: each kind by its parts.
 use mathlib.Core.Path.{sym, _∙_, ap}
 use native.Mathlib.Omega.{arith}
-use Rattle.process.proofs.ReadLaws.{read-formed, readable}
+use Rattle.table.proofs.PassingLaws.{read-formed, readable, read-built}
 use Rattle.rules.specs.declared.Node.{Node}
 use Rattle.table.specs.Marks.{withBits}
 use Rattle.switches.proofs.PartsLaws.{sequence-few, sequence-inner, branch-few, branch-inner, loop-few, loop-inner, other-inner}
@@ -14,7 +14,7 @@ abbrev start : tie.After-node-at → tie.Start
 start read = read .before .before .before
 
 node-at-requires : tie.Need-node-at-requires
-node-at-requires c κs = readable (c .before .before .pre .0) (c .before .before .pre .1)
+node-at-requires c κs = readable (read-built (c .before .before .pre .0)) (c .before .before .pre .1)
 
 set-both-requires : tie.Need-set-both-requires
 set-both-requires c κs =

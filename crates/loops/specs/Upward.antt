@@ -1,21 +1,10 @@
--- What the way up from a node is given, the parts that it goes by, and whether a table has a leave.
+-- The parts that the way up from a node goes by, and whether a table has a leave.
 use mathlib.Core.Bool.{Bool, false, cond, not, _&&_, _||_}
-use mathlib.Core.List.{List}
-use mathlib.Core.Path.{_≡_}
 use Prim.Native.Nat.{ℕ}
 use lib.Dec.{eqb}
 use Rattle.rules.specs.declared.Node.{Node}
-use Rattle.rules.specs.declared.Verdict.the-variants.{Accepted}
 use Rattle.rules.specs.Choice.{allBelow}
 use Rattle.rules.specs.Table.{Program, nodes, statementAt, isLeave}
-use Rattle.rules.specs.WellFormed.{wellBuilt}
-use Rattle.table.specs.Header.{headerOf}
-use Rattle.table.specs.declared.Header.{Header}
-
--- a table of which questions 2 to 12 hold, with its header
-pub record Built (table : List ℕ) (header : Header) : Type 0 where
-  pub well-built : wellBuilt table ≡ Accepted
-  pub headed : header ≡ headerOf table
 
 -- whether a node is a while with node n as its body
 abbrev pub hasBody : Node → ℕ → Bool
