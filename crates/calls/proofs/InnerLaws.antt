@@ -1,10 +1,9 @@
 -- The inner statements of a node: those of its parts that may hold a call are among them, and only four kinds have any or call.
 use mathlib.Core.Bool.{true, false, _&&_}
 use mathlib.Core.List.{List, [], _∷_}
-use mathlib.Core.Logic.{⊎-elim}
+use mathlib.Core.Logic.{inl, inr, ⊎-elim}
 use mathlib.Core.Path.{_≡_, refl, sym, _∙_}
 use Prim.Native.Nat.{ℕ, _≤_}
-use native.Mathlib.Decide.{decLt}
 use native.Mathlib.Omega.{arith}
 use lib.Dec.{leb}
 use borrow.Author.Tests.{leb-true, le-leb}
@@ -13,39 +12,33 @@ use Rattle.rules.specs.Table.{Program, nodeAt, statementOf, expressionAt, state
 use Rattle.rules.specs.Table.{Expression, constant, variable, ownNumber, processCount, door, slot, operation}
 use Rattle.rules.specs.Table.{Statement, nothing, assign, sequence, branch, loop, call, latch, collective, leave}
 use Rattle.rules.specs.Table.{barrier, broadcast, exchange, expressionOperands, statementOperands}
-use Rattle.rules.specs.WellFormed.{isExpression, expressionPart, partsAt, occurrences}
+use Rattle.rules.specs.WellFormed.{isExpression, expressionPart, partsAt}
 use Rattle.rules.specs.WellFormed.{expressionFits, statementFits, nodeFits, expressionParts, statementParts}
 use Rattle.rules.proofs.AnswerLaws.{both-left, both-right}
+use Rattle.rules.proofs.AnywhereLaws.{In}
 use Rattle.rules.proofs.ChoiceLaws.{bool-cases}
 use Rattle.rules.proofs.KindLaws.{by-kind}
-use Rattle.rules.proofs.PartLaws.{expression-part-sort, EachFits, expression-fit, statement-fit}
+use Rattle.rules.proofs.PartLaws.{in-append, in-behind, expression-part-sort, EachFits, expression-fit, statement-fit}
 use Rattle.table.proofs.TestLaws.{never}
-use Rattle.table.proofs.UseLaws.{occurrences-append}
 use Rattle.calls.specs.Walk.{innerStatements, mayCall, callers, callsBelow}
-use Rattle.calls.proofs.TreeLaws.{In, first-in, one-more, in-cases}
-
-nowhere : {A : Type 0} (k : ℕ) → In k [] → A
-unfolding occurrences
-nowhere k h = absurd (omega arith)
 
 -- they are parts
 inner-part : (k : ℕ) (s : Statement) → In k (innerStatements s) → In k (statementParts s)
 unfolding innerStatements statementParts
 inner-part k nothing h = h
-inner-part k (assign a b) h = nowhere k h
+inner-part k (assign a b) h = absurd h
 inner-part k (sequence a b) h = h
-inner-part k (branch a b c) h = one-more k a (b ∷ c ∷ []) h
-inner-part k (loop a b) h = one-more k a (b ∷ []) h
+inner-part k (branch a b c) h = inr h
+inner-part k (loop a b) h = inr h
 inner-part k (call q) h = h
-inner-part k (latch a b) h = nowhere k h
-inner-part k (collective m) h = nowhere k h
-inner-part k leave h = nowhere k h
+inner-part k (latch a b) h = absurd h
+inner-part k (collective m) h = absurd h
+inner-part k leave h = absurd h
 
 pub inner-in : (program : Program) (n k : ℕ) → In k (innerStatements (statementAt program n)) → In k (partsAt program n)
 unfolding partsAt
 inner-in program n k h =
-    let part = inner-part k (statementAt program n) h in
-    omega (arith, part, occurrences-append k (expressionParts (expressionAt program n)) (statementParts (statementAt program n)))
+    in-behind (expressionParts (expressionAt program n)) _ k (inner-part k (statementAt program n) h)
 
 -- an expression holds no call
 no-caller : (program : Program) (n : ℕ) → isExpression program n ≡ true → mayCall program n ≡ true → ⊥
@@ -57,11 +50,8 @@ no-caller program n e s =
 -- and a part that may hold a call is one of them
 module _ (program : Program) (n k : ℕ) (s : mayCall program k ≡ true) where
   past : (a : ℕ) (xs : List ℕ) → expressionPart program n a ≡ true → In k (a ∷ xs) → In k xs
-  past a xs e h =
-      ⊎-elim
-      (λ (same : a ≡ k). absurd (no-caller program k (rw same at (expression-part-sort program n a e)) s))
-      (λ (rest : In k xs). rest)
-      (in-cases k a xs h)
+  past a xs e (inl same) = absurd (no-caller program k (rw (← same) at (expression-part-sort program n a e)) s)
+  past a xs e (inr rest) = rest
 
   no-part : (e : Expression) → EachFits program n (expressionOperands e) → In k (expressionParts e) → In k []
   unfolding expressionParts
@@ -94,12 +84,12 @@ module _ (program : Program) (n k : ℕ) (s : mayCall program k ≡ true) where
       let right = statementFits program n (statementAt program n) in
       let ours = expressionParts (expressionAt program n) in
       let rest = statementParts (statementAt program n) in
-      elim (decLt 0 (occurrences k ours)) [
-        | yes l ↦ nowhere k (no-part (expressionAt program n) (expression-fit program n (expressionAt program n) (both-left left right fits)) l)
-        | no m ↦
-            part-inner (statementAt program n) (statement-fit program n (statementAt program n) (both-right left right fits))
-            (omega (arith, occurrences-append k ours rest))
-      ]
+      ⊎-elim
+      (λ (i : In k ours).
+      absurd (no-part (expressionAt program n) (expression-fit program n (expressionAt program n) (both-left left right fits)) i))
+      (λ (i : In k rest).
+      part-inner (statementAt program n) (statement-fit program n (statementAt program n) (both-right left right fits)) i)
+      (in-append ours rest k h)
 
 -- those of a list that may hold a call
 pub callers-in : (program : Program) (k : ℕ) (u : List ℕ) → In k (callers program u) → In k u
@@ -108,25 +98,19 @@ callers-in program k [] h = h
 callers-in program k (x ∷ u) h =
     ⊎-elim
     (λ (e : mayCall program x ≡ true).
-    ⊎-elim
-    (λ (same : x ≡ k). rw same (first-in k u))
-    (λ (rest : In k (callers program u)). one-more k x u (callers-in program k u rest))
-    (in-cases k x (callers program u) (simp e at h)))
-    (λ (e : mayCall program x ≡ false). one-more k x u (callers-in program k u (simp e at h)))
+    ⊎-elim (λ (same : k ≡ x). inl same) (λ (rest : In k (callers program u)). inr (callers-in program k u rest)) (simp e at h))
+    (λ (e : mayCall program x ≡ false). inr (callers-in program k u (simp e at h)))
     (bool-cases (mayCall program x))
 
 pub in-callers : (program : Program) (k : ℕ) (u : List ℕ) → mayCall program k ≡ true → In k u → In k (callers program u)
 unfolding callers
 in-callers program k [] t h = h
-in-callers program k (x ∷ u) t h =
+in-callers program k (x ∷ u) t (inl same) = let e : mayCall program x ≡ true = rw same at t in simp e (inl same)
+in-callers program k (x ∷ u) t (inr rest) =
     ⊎-elim
-    (λ (same : x ≡ k). simp (same, t) (first-in k (callers program u)))
-    (λ (rest : In k u).
-    ⊎-elim
-    (λ (e : mayCall program x ≡ true). simp e (one-more k x (callers program u) (in-callers program k u t rest)))
+    (λ (e : mayCall program x ≡ true). simp e (inr (in-callers program k u t rest)))
     (λ (e : mayCall program x ≡ false). simp e (in-callers program k u t rest))
-    (bool-cases (mayCall program x)))
-    (in-cases k x u h)
+    (bool-cases (mayCall program x))
 
 -- what neither calls nor has inner statements
 abbrev Quiet : Statement → Type 0
@@ -156,5 +140,5 @@ module _ (program : Program) (n : ℕ) (none : mayCall program n ≡ false) wher
       quiet (nodeAt program n) (outside 18 (omega arith) (omega arith)) (outside 19 (omega arith) (omega arith))
       (outside 20 (omega arith) (omega arith)) (outside 21 (omega arith) (omega arith))
 
-  pub no-inner : {A : Type 0} (k : ℕ) → In k (innerStatements (statementAt program n)) → A
-  no-inner k h = nowhere k (rw (no-call .0) at h)
+  pub no-inner : (k : ℕ) → In k (innerStatements (statementAt program n)) → ⊥
+  no-inner k h = rw (no-call .0) at h

@@ -1,54 +1,24 @@
 -- A procedure's tree from the body down: a node of the tree is the body or a part of a node of the tree.
-use mathlib.Core.Bool.{true, false, cond}
-use mathlib.Core.List.{List, [], _∷_, _++_}
+use mathlib.Core.Bool.{true, false}
+use mathlib.Core.List.{List, _++_}
 use mathlib.Core.Logic.{_⊎_, inl, inr, ⊎-elim}
-use mathlib.Core.Path.{_≡_, refl, sym, _∙_, ap}
+use mathlib.Core.Path.{_≡_, _∙_, ap}
 use Prim.Native.Nat.{ℕ, _+_, _≤_, _<_}
 use native.Mathlib.Decide.{decLt}
 use native.Mathlib.Omega.{arith}
 use lib.Dec.{eqb}
-use borrow.Author.Tests.{eqb-true, eq-eqb}
+use borrow.Author.Tests.{eqb-true}
 use Rattle.rules.specs.Table.{Program, decode, nodes, nodeAt}
 use Rattle.rules.specs.WellFormed.{partsAt, occurrences, inTree}
 use Rattle.rules.proofs.ChoiceLaws.{bool-cases}
-use Rattle.rules.proofs.AnywhereLaws as Laws
-use Rattle.rules.proofs.AnywhereLaws.{by-anywhere, stands-down, stands-above}
-use Rattle.rules.proofs.LoopLaws.{in-counted}
+use Rattle.rules.proofs.AnywhereLaws.{In, by-anywhere, stands-down, stands-above}
+use Rattle.rules.proofs.LeaveLaws.{counted-in}
+use Rattle.rules.proofs.LoopLaws.{in-counted, counted-append}
 use Rattle.table.specs.declared.Header.{Header}
 use Rattle.table.specs.Roles.{roleOf, isPart, fieldParts}
 use Rattle.table.specs.Uses.{Fitting}
 use Rattle.table.proofs.FittingLaws.{part-below, fields-fit}
 use Rattle.table.proofs.RoleLaws.{parts-law}
-use Rattle.table.proofs.UseLaws.{occurrences-append}
-
--- a number stands in a list
-abbrev pub In : ℕ → List ℕ → Type 0
-In a xs = 0 < occurrences a xs
-
-pub one-more : (a x : ℕ) (xs : List ℕ) → In a xs → In a (x ∷ xs)
-unfolding occurrences
-one-more a x xs h = omega arith
-
-pub first-in : (a : ℕ) (xs : List ℕ) → In a (a ∷ xs)
-unfolding occurrences
-first-in a xs = simp (eq-eqb a a refl) (omega arith)
-
-pub in-cases : (a x : ℕ) (xs : List ℕ) → In a (x ∷ xs) → (x ≡ a) ⊎ In a xs
-unfolding occurrences
-in-cases a x xs h =
-    ⊎-elim
-    (λ (e : eqb x a ≡ true). inl (eqb-true x a e))
-    (λ (e : eqb x a ≡ false).
-    let rest : 0 < 0 + occurrences a xs = simp e at h in
-    inr (omega arith))
-    (bool-cases (eqb x a))
-
--- as the laws of `anywhere` say it
-listed : (a : ℕ) (xs : List ℕ) → In a xs → Laws.In a xs
-unfolding occurrences
-listed a [] h = absurd (omega arith)
-listed a (x ∷ xs) h =
-    ⊎-elim (λ (same : x ≡ a). inl (sym same)) (λ (rest : In a xs). inr (listed a xs rest)) (in-cases a x xs h)
 
 module _ (program : Program) where
   pub tree-low : (n m : ℕ) → inTree program n m ≡ true → n ≤ m
@@ -57,21 +27,14 @@ module _ (program : Program) where
       (λ k a i l low. omega arith) m h
 
 -- parts stand below their node
-in-field : (k role value : ℕ) → In k (fieldParts role value) → (isPart role ≡ true) × (value ≡ k)
-unfolding fieldParts occurrences
+in-field : (k role value : ℕ) → In k (fieldParts role value) → (isPart role ≡ true) × (k ≡ value)
+unfolding fieldParts
 in-field k role value h =
     ⊎-elim
     (λ (e : isPart role ≡ true).
-    let here : 0 < cond (eqb value k) 1 0 + 0 = simp e at h in (
-      e,
-      ⊎-elim
-          (λ (s : eqb value k ≡ true). eqb-true value k s)
-          (λ (s : eqb value k ≡ false). let none : 0 < 0 + 0 = simp s at here in absurd (omega arith))
-          (bool-cases (eqb value k)),
-    ))
-    (λ (e : isPart role ≡ false).
-    let none : 0 < 0 = simp e at h in
-    absurd (omega arith))
+    let here : (k ≡ value) ⊎ ⊥ = simp e at h in
+    (e, ⊎-elim (λ (same : k ≡ value). same) (λ (none : ⊥). absurd none) here))
+    (λ (e : isPart role ≡ false). let none : ⊥ = simp e at h in absurd none)
     (bool-cases (isPart role))
 
 module _ (table : List ℕ) (header : Header) (f : Fitting table header) where
@@ -84,19 +47,20 @@ module _ (table : List ℕ) (header : Header) (f : Fitting table header) where
       let fc = fieldParts (roleOf (m .kind) 1) (m .c) in
       let split : occurrences k (partsAt (decode table) n) ≡ occurrences k fa + (occurrences k fb + occurrences k fc) =
       ap (occurrences k) (parts-law (decode table) n)
-      ∙ occurrences-append k fa (fb ++ fc)
-      ∙ ap (λ (x : ℕ). occurrences k fa + x) (occurrences-append k fb fc) in
+      ∙ counted-append fa (fb ++ fc) k
+      ∙ ap (λ (x : ℕ). occurrences k fa + x) (counted-append fb fc k) in
+      let some = in-counted (partsAt (decode table) n) k h in
       elim (decLt 0 (occurrences k fa)) [
         | yes in-a ↦
-            let here = in-field k (roleOf (m .kind) 100) (m .a) in-a in
+            let here = in-field k (roleOf (m .kind) 100) (m .a) (counted-in fa k (omega arith)) in
             omega (arith, here .1, part-below (decode table) n _ _ (fit .0) (here .0))
         | no not-a ↦
             elim (decLt 0 (occurrences k fb)) [
               | yes in-b ↦
-                  let here = in-field k (roleOf (m .kind) 10) (m .b) in-b in
+                  let here = in-field k (roleOf (m .kind) 10) (m .b) (counted-in fb k (omega arith)) in
                   omega (arith, here .1, part-below (decode table) n _ _ (fit .1) (here .0))
               | no not-b ↦
-                  let here = in-field k (roleOf (m .kind) 1) (m .c) (omega arith) in
+                  let here = in-field k (roleOf (m .kind) 1) (m .c) (counted-in fc k (omega arith)) in
                   omega (arith, here .1, part-below (decode table) n _ _ (fit .2) (here .0))
             ]
       ]
@@ -111,19 +75,13 @@ module _ (table : List ℕ) (header : Header) (f : Fitting table header) where
   pub tree-up : (n b : ℕ) → b < nodes (decode table) → inTree (decode table) n b ≡ true → (n ≡ b) ⊎ Parent n b
   tree-up n b l h =
       ⊎-elim (λ (same : n ≡ b). inl same)
-      (λ (found : (m : ℕ) × Laws.In n (partsAt (decode table) m) × (inTree (decode table) m b ≡ true)).
+      (λ (found : (m : ℕ) × In n (partsAt (decode table) m) × (inTree (decode table) m b ≡ true)).
       let (m, i, t) = found in
-      inr
-      (record {
-        node = m;
-        inside = omega (arith, tree-low (decode table) m b t);
-        holds = t;
-        stands = in-counted (partsAt (decode table) m) n i;
-      }))
+      inr (record { node = m; inside = omega (arith, tree-low (decode table) m b t); holds = t; stands = i }))
       (stands-above (partsAt (decode table)) n b h)
 
   pub tree-down : (j k b : ℕ) → b < nodes (decode table) → inTree (decode table) j b ≡ true → In k (partsAt (decode table) j)
       → inTree (decode table) k b ≡ true
   tree-down j k b l h stands =
       let low = part-in-below j k (omega (arith, tree-low (decode table) j b h)) stands in
-      stands-down (partsAt (decode table)) j k b (listed k (partsAt (decode table) j) stands) low h
+      stands-down (partsAt (decode table)) j k b stands low h

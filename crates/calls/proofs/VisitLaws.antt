@@ -1,13 +1,14 @@
 -- A visit of a node, by its kind: the statements that it has wait are nodes below it, and the lowest call so far.
 use mathlib.Core.Bool.{true, false, cond}
 use mathlib.Core.List.{List, [], _∷_}
-use mathlib.Core.Logic.{⊎-elim}
+use mathlib.Core.Logic.{inl, inr, ⊎-elim}
 use mathlib.Core.Path.{_≡_, refl, sym, _∙_, ap}
 use Prim.Native.Nat.{ℕ, _*_, _≤_, _<_}
 use lib.ListN.{length}
 use borrow.Author.Tests.{lt-ltb, le-ltb}
 use Rattle.rules.specs.declared.Node.{Node}
 use Rattle.rules.specs.Table.{Program, decode, Statement, nodes, nodeAt, statementOf, statementAt}
+use Rattle.rules.proofs.AnywhereLaws.{In}
 use Rattle.rules.proofs.ChoiceLaws.{bool-cases}
 use Rattle.rules.proofs.KindLaws.{sequence-of, branch-of, loop-of, call-of, by-kind}
 use Rattle.table.specs.declared.Header.{Header}
@@ -15,7 +16,7 @@ use Rattle.table.specs.Marks.{withBit, withBits}
 use Rattle.table.specs.Uses.{Fitting}
 use Rattle.table.proofs.BitLaws.{bit-same}
 use Rattle.calls.specs.Walk.{innerStatements, mayCall, callers, waiting, callsBelow}
-use Rattle.calls.proofs.TreeLaws.{In, first-in, one-more, part-in-below}
+use Rattle.calls.proofs.TreeLaws.{part-in-below}
 use Rattle.calls.proofs.InnerLaws.{inner-in}
 
 pub inner-below : (table : List ℕ) (header : Header) → Fitting table header → (n a : ℕ) → n < nodes (decode table)
@@ -33,21 +34,15 @@ module _ (table : List ℕ) (n : ℕ) (m : Node) (read : m ≡ nodeAt (decode ta
 
     pub sequence-fits : m .kind ≡ 18 → (m .a < n) × (m .b < n)
     unfolding innerStatements
-    sequence-fits e = (
-      fits (m .a) (sequence-of m e) (first-in (m .a) (m .b ∷ [])),
-      fits (m .b) (sequence-of m e) (one-more (m .b) (m .a) (m .b ∷ []) (first-in (m .b) [])),
-    )
+    sequence-fits e = (fits (m .a) (sequence-of m e) (inl refl), fits (m .b) (sequence-of m e) (inr (inl refl)))
 
     pub branch-fits : m .kind ≡ 19 → (m .b < n) × (m .c < n)
     unfolding innerStatements
-    branch-fits e = (
-      fits (m .b) (branch-of m e) (first-in (m .b) (m .c ∷ [])),
-      fits (m .c) (branch-of m e) (one-more (m .c) (m .b) (m .c ∷ []) (first-in (m .c) [])),
-    )
+    branch-fits e = (fits (m .b) (branch-of m e) (inl refl), fits (m .c) (branch-of m e) (inr (inl refl)))
 
     pub loop-fits : m .kind ≡ 20 → m .b < n
     unfolding innerStatements
-    loop-fits e = fits (m .b) (loop-of m e) (first-in (m .b) [])
+    loop-fits e = fits (m .b) (loop-of m e) (inl refl)
 
   -- what waits
 

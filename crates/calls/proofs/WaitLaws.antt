@@ -12,7 +12,10 @@ use lib.ListN.{length, replicate}
 use borrow.Author.Tests.{lt-ltb, ltb-true}
 use Rattle.rules.specs.Table.{Program, decode, nodes, statementAt}
 use Rattle.rules.specs.WellFormed.{partsAt, occurrences, inTree}
+use Rattle.rules.proofs.AnywhereLaws.{In}
 use Rattle.rules.proofs.ChoiceLaws.{bool-cases}
+use Rattle.rules.proofs.LeaveLaws.{counted-in}
+use Rattle.rules.proofs.LoopLaws.{in-counted}
 use Rattle.rules.proofs.PartLaws.{tree-self}
 use Rattle.table.specs.declared.Header.{Header}
 use Rattle.table.specs.Marks.{bitAt, withBit, withBits}
@@ -22,7 +25,7 @@ use Rattle.table.proofs.TestLaws.{never}
 use Rattle.table.proofs.UseLaws.{bits-at, length-withBits}
 use Rattle.calls.specs.Walk.{innerStatements, mayCall, waiting}
 use Rattle.calls.proofs.InnerLaws.{inner-in, in-inner, callers-in, in-callers, no-inner}
-use Rattle.calls.proofs.TreeLaws.{In, part-in-below, Parent, tree-up, tree-down}
+use Rattle.calls.proofs.TreeLaws.{part-in-below, Parent, tree-up, tree-down}
 
 -- what waits once the nodes from i on are visited, b being the body
 pub record Wait (program : Program) (b i : ℕ) (m : List ℕ) : Type 0 where
@@ -80,7 +83,7 @@ module _ (table : List ℕ) (header : Header) (f : Fitting table header) (b : �
                     let stood = in-inner (decode table) n k s (f .fits n inside) part in
                     ⊎-elim
                     (λ (t : mayCall (decode table) n ≡ true). never (sym (waits t (rw same at holds)) ∙ e))
-                    (λ (t : mayCall (decode table) n ≡ false). no-inner (decode table) n t k stood)
+                    (λ (t : mayCall (decode table) n ≡ false). absurd (no-inner (decode table) n t k stood))
                     (bool-cases (mayCall (decode table) n))
               ];
         }
@@ -103,7 +106,7 @@ module _ (table : List ℕ) (header : Header) (f : Fitting table header) (b : �
 
       grown : (k : ℕ) → k < 256 → In k inner → bitAt next k ≡ true
       grown k low stands =
-          bits k low ∙ simp (lt-ltb 0 (occurrences k inner) stands, or-true)
+          bits k low ∙ simp (lt-ltb 0 (occurrences k inner) (omega (arith, in-counted inner k stands)), or-true)
 
       old-or-new : (k : ℕ) → k < 256 → bitAt next k ≡ true → ((bitAt m k ≡ true) × (k < n)) ⊎ In k inner
       old-or-new k low e =
@@ -114,7 +117,7 @@ module _ (table : List ℕ) (header : Header) (f : Fitting table header) (b : �
           inl (was, omega (arith, w .sound k low was .1)))
           (λ (new : bitAt after k ≡ false).
           let stands : ltb 0 (occurrences k inner) ≡ true = simp new at (sym (bits k low) ∙ e) in
-          inr (ltb-true 0 (occurrences k inner) stands))
+          inr (counted-in inner k (omega (arith, ltb-true 0 (occurrences k inner) stands))))
           (bool-cases (bitAt after k))
 
       pub wait-taken : Wait (decode table) b n next
