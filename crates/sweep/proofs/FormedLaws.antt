@@ -12,19 +12,20 @@ use Rattle.rules.specs.declared.Verdict.the-variants.{Accepted, Refused}
 use Rattle.rules.specs.Acceptance.{bodyFlagged, judgedBy}
 use Rattle.rules.specs.Answers.{refused, _then_}
 use Rattle.rules.specs.Choice.{firstFailing}
-use Rattle.rules.specs.Table.{decode, procedures, nodes, nodeAt, body, expressionAt, statementAt, Statement, nothing}
-use Rattle.rules.specs.WellFormed.{isStatement, unnamedZero, expressionFits, statementFits, nodeFits, calledBelow, leaveEnclosed, wellBuilt, wellFormed}
+use Rattle.rules.specs.Table.{Program, decode, procedures, nodes, nodeAt, statementAt, Statement, nothing}
+use Rattle.rules.specs.WellFormed.{unnamedZero, calledBelow, leaveEnclosed, wellBuilt, wellFormed}
 use Rattle.rules.specs.WellFormed.{question6, question7, question8, question9, question10, question11, question12}
 use Rattle.rules.specs.WellFormed.{question26}
-use Rattle.rules.proofs.AnswerLaws.{both-right, then-first, then-rest, each-passed}
+use Rattle.rules.proofs.AnswerLaws.{then-first, then-rest, then-assoc, each-passed}
 use Rattle.rules.proofs.ChoiceLaws.{first-none}
+use Rattle.rules.proofs.Formed.{Formed}
 use Rattle.table.specs.declared.Header.{Header}
 use Rattle.table.specs.Header.{Passing}
 use Rattle.table.specs.Sized.{Sized, shapeVerdict}
 use Rattle.table.specs.Uses.{Fitting}
 use Rattle.table.proofs.FittingLaws.{fitting}
 use Rattle.table.proofs.ShapeLaws.{sized}
-use Rattle.table.proofs.PlaceLaws.{each-refused, each-accepted, then-assoc}
+use Rattle.table.proofs.PlaceLaws.{each-refused, each-accepted}
 use Rattle.leaves.specs.Leaves.{leftCode}
 use Rattle.leaves.proofs.RuleLaws.{rule-whole}
 use Rattle.visit.specs.Facts.{ruleCode, guardCode, flagCode, FactsTo}
@@ -66,11 +67,6 @@ module _ {table : List ℕ} {header : Header} (filled : Filled table header) whe
       fitting table header (filled .sized) (then-first (question6 table) _ (filled .passed))
       (then-first (question9 (decode table)) _ after8)
 
-  pub body-sort : (p : ℕ) → p < procedures (decode table) → isStatement (decode table) (body (decode table) p) ≡ true
-  body-sort =
-      each-passed 10 (procedures (decode table)) (λ p. isStatement (decode table) (body (decode table) p))
-      (then-first (question10 (decode table)) _ (then-rest (question9 (decode table)) _ after8))
-
   pub none-miscalled : question12 (decode table) ≡ Accepted
       → header .nodes ≡ firstFailing (λ n. calledBelow (decode table) n (statementAt (decode table) n)) (nodes (decode table))
   none-miscalled passed =
@@ -78,35 +74,32 @@ module _ {table : List ℕ} {header : Header} (filled : Filled table header) whe
       filled .sized .nodes-read ∙ sym (first-none test (nodes (decode table)) (each-passed 12 (nodes (decode table)) test passed))
 
 -- 13 to 17 by a reading, from the plane of facts and the least refusal of 13 to 16, without and with a look at leaves
-module _ {table : List ℕ} {header : Header} (filled : Filled table header) (reading : ℕ → Statement)
-    (each : (k : ℕ) → (reading k ≡ statementAt (decode table) k) ⊎ (reading k ≡ nothing)) {facts : List ℕ}
-    (kept : FactsTo (decode table) reading (nodes (decode table)) facts) where
-  effect-flag : (p : ℕ) → p < procedures (decode table) → effectCode (decode table) facts p ≡ flagCode (decode table) reading p
+module _ {program : Program} (formed : Formed program) (reading : ℕ → Statement)
+    (each : (k : ℕ) → (reading k ≡ statementAt program k) ⊎ (reading k ≡ nothing)) {facts : List ℕ}
+    (kept : FactsTo program reading (nodes program) facts) where
+  effect-flag : (p : ℕ) → p < procedures program → effectCode program facts p ≡ flagCode program reading p
   unfolding effectCode flagCode bodyFlagged
   effect-flag p l =
-      rw (kept .known (body (decode table) p) (fits filled .bodies p l), fact-statement (decode table) reading (body (decode table) p) (body-sort filled p l))
+      rw (kept .known _ (formed .body-below p l), fact-statement program reading _ (formed .body-statement p l))
 
-  rules-whole : min (leastBelow (guardCode (decode table) reading) (nodes (decode table))) (leastBelow (leftCode (decode table) reading) (nodes (decode table)))
-      ≡ leastBelow (ruleCode (decode table) reading) (nodes (decode table))
-  unfolding nodeFits
+  rules-whole :
+      min (leastBelow (guardCode program reading) (nodes program)) (leastBelow (leftCode program reading) (nodes program))
+      ≡ leastBelow (ruleCode program reading) (nodes program)
   rules-whole =
-      sym (least-both (guardCode (decode table) reading) (leftCode (decode table) reading) (nodes (decode table)))
-      ∙ least-same (λ n. min (guardCode (decode table) reading n) (leftCode (decode table) reading n)) (ruleCode (decode table) reading) (nodes (decode table))
+      sym (least-both (guardCode program reading) (leftCode program reading) (nodes program))
+      ∙ least-same (λ n. min (guardCode program reading n) (leftCode program reading n)) (ruleCode program reading) _
       (λ n l.
-      let few : n < 65536 = omega (arith, filled .sized .nodes-high) in
-      rule-whole (decode table) reading n few each
-      (both-right (expressionFits (decode table) n (expressionAt (decode table) n)) (statementFits (decode table) n (statementAt (decode table) n)) (fits filled .fits n l))
-      (rule-high (decode table) reading n few))
+      let few : n < 65536 = omega (arith, formed .nodes-high) in
+      rule-whole program reading n few each (formed .statement-fits n) (rule-high program reading n few))
 
-  pub judged-verdict : {guards rule least : ℕ} → guards ≡ leastBelow (guardCode (decode table) reading) (nodes (decode table))
-      → rule ≡ min guards (leastBelow (leftCode (decode table) reading) (nodes (decode table)))
-      → least ≡ min rule (leastBelow (effectCode (decode table) facts) (procedures (decode table)))
-      → verdictOf least ≡ judgedBy (decode table) reading
+  pub judged-verdict : {guards rule least : ℕ} → guards ≡ leastBelow (guardCode program reading) (nodes program)
+      → rule ≡ min guards (leastBelow (leftCode program reading) (nodes program))
+      → least ≡ min rule (leastBelow (effectCode program facts) (procedures program))
+      → verdictOf least ≡ judgedBy program reading
   judged-verdict of-guards of-leaves found =
-      let flags = least-same (effectCode (decode table) facts) (flagCode (decode table) reading) (procedures (decode table)) effect-flag in
-      let sized = filled .sized in
+      let flags = least-same (effectCode program facts) (flagCode program reading) (procedures program) effect-flag in
       rw (found, of-leaves, of-guards, rules-whole, flags)
-      (judged-least (decode table) reading (omega (arith, sized .nodes-high)) (omega (arith, sized .procedures-high)) .0)
+      (judged-least program reading (omega (arith, formed .nodes-high)) (omega (arith, formed .procedures-high)) .0)
 
 -- a well-formed table passes 2 to 11
 pub well-filled : {table : List ℕ} {header : Header} → Passing wellFormed table header → Filled table header

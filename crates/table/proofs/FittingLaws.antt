@@ -1,18 +1,18 @@
 -- What questions 6 and 9 say of bodies and of the parts of a node: each lies below what names it.
-use mathlib.Core.Bool.{true, false, _&&_}
+use mathlib.Core.Bool.{true, false}
 use mathlib.Core.List.{List}
 use mathlib.Core.Logic.{⊎-elim}
 use mathlib.Core.Path.{_≡_, sym, _∙_}
 use Prim.Native.Nat.{ℕ, _<_, _^_, _%_}
-use lib.Dec.{ltb, eqb}
+use lib.Dec.{eqb}
 use borrow.Author.Tests.{eqb-true, ltb-true}
 use Rattle.rules.specs.declared.Node.{Node}
 use Rattle.rules.specs.declared.Verdict.the-variants.{Accepted}
 use Rattle.rules.specs.Table.{Program, decode, procedures, nodes, body, nodeAt, procedureWord}
-use Rattle.rules.specs.WellFormed.{nodeFits, isExpression, isStatement, expressionPart, statementPart, procedureFits}
-use Rattle.rules.specs.WellFormed.{question6, question9}
-use Rattle.rules.proofs.AnswerLaws.{both-left, both-right, each-passed}
+use Rattle.rules.specs.WellFormed.{nodeFits, procedureFits, question6, question9}
+use Rattle.rules.proofs.AnswerLaws.{both-right, each-passed}
 use Rattle.rules.proofs.ChoiceLaws.{bool-cases}
+use Rattle.rules.proofs.ValueLaws.{expression-part-below, statement-part-below}
 use Rattle.table.specs.declared.Header.{Header}
 use Rattle.table.specs.Roles.{roleOf, isPart, fieldFits}
 use Rattle.table.specs.Sized.{Sized}
@@ -39,17 +39,11 @@ fitting table header s passed6 passed9 =
 pub part-below : (program : Program) (n role value : ℕ) → fieldFits program n role value ≡ true
     → isPart role ≡ true
     → value < n
-unfolding fieldFits expressionPart statementPart
+unfolding fieldFits
 part-below program n role value fits part =
     ⊎-elim
-    (λ (e : eqb role 2 ≡ true).
-    let two : role ≡ 2 = eqb-true role 2 e in
-    let here : (ltb value n && isExpression program value) ≡ true = rw two at fits in
-    ltb-true value n (both-left (ltb value n) (isExpression program value) here))
-    (λ (e : eqb role 2 ≡ false).
-    let three : role ≡ 3 = eqb-true role 3 (simp e at part) in
-    let here : (ltb value n && isStatement program value) ≡ true = rw three at fits in
-    ltb-true value n (both-left (ltb value n) (isStatement program value) here))
+    (λ (e : eqb role 2 ≡ true). expression-part-below program n value (rw (eqb-true role 2 e) at fits))
+    (λ (e : eqb role 2 ≡ false). statement-part-below program n value (rw (eqb-true role 3 (simp e at part)) at fits))
     (bool-cases (eqb role 2))
 
 -- the fields of a node that fits

@@ -1,4 +1,4 @@
--- A question put to every place: its answer from the place found, and the order of questions.
+-- A question put to every place: its answer from the place found.
 use mathlib.Core.Bool.{Bool}
 use mathlib.Core.Path.{_≡_, refl}
 use Prim.Native.Nat.{ℕ, _≤_, _<_}
@@ -15,11 +15,7 @@ module _ (question count : ℕ) (test : ℕ → Bool) (place : ℕ) (found : pla
   pub each-accepted : count ≤ place → askEach question count test ≡ Accepted
   each-accepted l = simp (← found, le-ltb place count l)
 
--- the order of questions
-pub then-assoc : (u v w : Verdict) → ((u then v) then w) ≡ (u then (v then w))
-then-assoc Accepted v w = refl
-then-assoc (Refused r) v w = refl
-
+-- an answer with nothing asked after it
 pub then-none : (v : Verdict) → (v then Accepted) ≡ v
 then-none Accepted = refl
 then-none (Refused r) = refl

@@ -33,11 +33,6 @@ unfolding withBits
 length-withBits m [] = refl
 length-withBits m (n ∷ u) = length-withBits (withBit m n) u ∙ length-withBit m n
 
-pub occurrences-append : (k : ℕ) (a b : List ℕ) → occurrences k (a ++ b) ≡ occurrences k a + occurrences k b
-unfolding occurrences
-occurrences-append k [] b = omega arith
-occurrences-append k (x ∷ a) b = omega (arith, occurrences-append k a b)
-
 -- a node's count: 1 where it is marked already, and its occurrences in a list
 abbrev pub marked : List ℕ → ℕ → ℕ
 marked m k = cond (bitAt m k) 1 0

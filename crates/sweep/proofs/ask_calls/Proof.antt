@@ -3,6 +3,7 @@ use mathlib.Core.Logic.{inl}
 use mathlib.Core.Path.{refl, _∙_}
 use native.Mathlib.Omega.{arith}
 use Rattle.rules.specs.Table.{decode, nodes, statementAt}
+use Rattle.rules.proofs.Formed.{built}
 use Rattle.visit.specs.Facts.{guardCode}
 use Rattle.visit.proofs.LeastLaws.{least-high}
 use Rattle.sweep.proofs.FormedLaws.{refused12, accepted12, refused26, unjudged, judged-next, judged-verdict, well-built}
@@ -96,12 +97,13 @@ returns-3 c =
     let filled = start .pre .0 .0 in
     let sized = filled .sized in
     let called = walk .first-call .ensures in
+    let passed = well-built filled (accepted12 sized (called .first) (start .args .judged) (past .if1 .left)) in
     let leaves = c .before .before .before .before .before .before .before .before .before .before .pass-leaves .ensures in
     let kept = start .pre .1 in
     let whole = statementAt (decode (start .args .table .now)) in
     c .verdict .ensures
-    ∙ judged-verdict filled whole (λ k. inl refl) (rw (leaves .facts ∙ called .facts) (kept .ruled .facts)) (kept .ruled .least)
-    (leaves .least (rw (called .facts) (kept .ruled .facts))) (c .before .unflagged .ensures)
+    ∙ judged-verdict (built _ passed) whole (λ k. inl refl) (rw (leaves .facts ∙ called .facts) (kept .ruled .facts))
+    (kept .ruled .least) (leaves .least (rw (called .facts) (kept .ruled .facts))) (c .before .unflagged .ensures)
     ∙ judged-next sized (walk .first-call .ensures .first) _ (past .if1 .left) (loose .first-loose .ensures)
     (c .before .before .before .before .if2 .left) (c .before .before .before .if3 .taken)
 

@@ -5,6 +5,7 @@ use borrow.Rule.Slice.PartMut.{midOf, putMid}
 use lib.ListN.{length}
 use Rattle.rules.specs.Judgement.{counted}
 use Rattle.rules.specs.Table.{decode, nodes}
+use Rattle.table.proofs.PassingLaws.{read-formed}
 use Rattle.sweep.proofs.FormedLaws.{well-filled, judged-verdict}
 use Rattle.table.proofs.BitLaws.{cleared}
 use Rattle.visit.specs.Facts.{guardCode, FactsTo}
@@ -116,7 +117,7 @@ returns c =
     let facts : FactsTo (decode table) (counted (decode table)) (nodes (decode table)) (factsPlane (workPlanes (putMid 0 allPlanes planes words))) =
     rw (same, clear .facts) (known .ruled .facts) in
     c .verdict .ensures
-    ∙ judged-verdict (well-filled read) (counted (decode table)) (each-counted (decode table)) (rw (leaves .facts) facts)
+    ∙ judged-verdict (read-formed read) (counted (decode table)) (each-counted (decode table)) (rw (leaves .facts) facts)
     (known .ruled .least) (leaves .least facts) (c .before .unflagged .ensures)
 
 pub judge-counted-spec : {M : Type 1} → statement M
