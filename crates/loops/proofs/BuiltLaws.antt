@@ -16,10 +16,12 @@ use Rattle.table.proofs.PassingLaws.{built-formed}
 use Rattle.loops.specs.Upward.{hasLeave}
 
 -- the number of nodes stands for no while
-pub nearest-few : {table : List ℕ} {header : Header} → Passing wellBuilt table header → (n : ℕ) → nearestLoop (decode table) n ≤ 256
+pub nearest-few : {table : List ℕ} {header : Header} → Passing wellBuilt table header → (n : ℕ)
+    → nearestLoop (decode table) n ≤ 256
 unfolding nearestLoop
 nearest-few {table} b n =
-    omega (arith, first-le (λ w. not (loopAround (decode table) n (statementAt (decode table) w))) (nodes (decode table)), built-formed b .nodes-high)
+    let low = first-le (λ w. not (loopAround (decode table) n (statementAt (decode table) w))) (nodes (decode table)) in
+    omega (arith, built-formed b .nodes-high)
 
 -- a table without leaves
 pub no-leave-at : (program : Program) → Formed program → hasLeave program ≡ false → (n : ℕ) → isLeave (statementAt program n) ≡ false

@@ -81,14 +81,13 @@ module _ {table : List ℕ} {header : Header} {words : List ℕ} {own count : �
       → depth words < stackPlaces
   turn-repeat e n = t .place (rw (top-statement (t .topped) (loop-of m e)) n)
 
-  called : m .kind ≡ 21 → m .a < procedures (decode table)
-  called e = call-field (decode table) shape (top words) m (t .topped .here) e
-
   pub turn-call : m .kind ≡ 21 → Stacked words × (4 * (2 + m .a) + 3 < length table) × (m .a < procedures (decode table))
-  turn-call e = (t .topped .stacked, omega (arith, called e, exact table (t .topped .given .read .passed), shape .nodes-low), called e)
+  turn-call e =
+      let low = call-field (decode table) shape (top words) m (t .topped .here) e in
+      (t .topped .stacked, omega (arith, exact table (t .topped .given .read .passed), shape .nodes-low), low)
 
   pub turn-body : m .kind ≡ 21 → body (decode table) (m .a) < 256
-  turn-body e = omega (arith, shape .body-below (m .a) (called e), shape .nodes-high)
+  turn-body e = omega (arith, shape .body-below (m .a) (turn-call e .2), shape .nodes-high)
 
   pub turn-latch : m .kind ≡ 22 → Given table header words count × Stacked words × Part (decode table) (m .a) × Part (decode table) (m .b)
   turn-latch e =

@@ -28,7 +28,8 @@ cast-node-at c = search needs
 node-at-requires : tie.Need-node-at-requires
 node-at-requires c κs =
     let given = c .before .before .before .before .before .before .pre in
-    rw (c .before .before .top .ensures) (readable (read-built (given .0)) (statement-below _ (read-formed (given .0)) _ (given .3)))
+    rw (c .before .before .top .ensures)
+    (readable (read-built (given .0)) (statement-below _ (read-formed (given .0)) _ (given .3)))
 
 lacked-zero-requires : tie.Need-lacked-zero-requires
 lacked-zero-requires c κs = search needs
