@@ -2,7 +2,7 @@
 use mathlib.Core.Bool.{true, false, cond}
 use mathlib.Core.List.{List, [], _∷_}
 use mathlib.Core.Logic.{inl, inr, ⊎-elim}
-use mathlib.Core.Path.{_≡_, refl, sym, _∙_, ap}
+use mathlib.Core.Path.{_≡_, refl}
 use Prim.Native.Nat.{ℕ, _*_, _≤_, _<_}
 use lib.ListN.{length}
 use borrow.Author.Tests.{lt-ltb, le-ltb}
@@ -10,7 +10,7 @@ use Rattle.rules.specs.declared.Node.{Node}
 use Rattle.rules.specs.Table.{Program, decode, Statement, nodes, nodeAt, statementOf, statementAt}
 use Rattle.rules.proofs.AnywhereLaws.{In}
 use Rattle.rules.proofs.ChoiceLaws.{bool-cases}
-use Rattle.rules.proofs.KindLaws.{sequence-of, branch-of, loop-of, call-of, by-kind}
+use Rattle.rules.proofs.KindLaws.{sequence-of, branch-of, loop-of, call-of, statement-here, by-kind}
 use Rattle.table.specs.declared.Header.{Header}
 use Rattle.table.specs.Marks.{withBit, withBits}
 use Rattle.table.specs.Uses.{Fitting}
@@ -24,13 +24,9 @@ pub inner-below : (table : List ℕ) (header : Header) → Fitting table header 
 inner-below table header f n a inside h = part-in-below table header f n a inside (inner-in (decode table) n a h)
 
 module _ (table : List ℕ) (n : ℕ) (m : Node) (read : m ≡ nodeAt (decode table) n) where
-  here : {s : Statement} → statementOf m ≡ s → statementAt (decode table) n ≡ s
-  unfolding statementAt
-  here t = ap statementOf (sym read) ∙ t
-
   module _ (header : Header) (f : Fitting table header) (inside : n < nodes (decode table)) where
     fits : {s : Statement} (a : ℕ) → statementOf m ≡ s → In a (innerStatements s) → a < n
-    fits a t h = inner-below table header f n a inside (rw (here t) h)
+    fits a t h = inner-below table header f n a inside (rw (statement-here (decode table) n m read t) h)
 
     pub sequence-fits : m .kind ≡ 18 → (m .a < n) × (m .b < n)
     unfolding innerStatements
@@ -48,20 +44,20 @@ module _ (table : List ℕ) (n : ℕ) (m : Node) (read : m ≡ nodeAt (decode ta
 
   pub waits-sequence : m .kind ≡ 18 → waiting (decode table) n ≡ callers (decode table) (m .a ∷ m .b ∷ [])
   unfolding innerStatements
-  waits-sequence e = rw (here (sequence-of m e))
+  waits-sequence e = rw (statement-here (decode table) n m read (sequence-of m e))
 
   pub waits-branch : m .kind ≡ 19 → waiting (decode table) n ≡ callers (decode table) (m .b ∷ m .c ∷ [])
   unfolding innerStatements
-  waits-branch e = rw (here (branch-of m e))
+  waits-branch e = rw (statement-here (decode table) n m read (branch-of m e))
 
   pub waits-loop : m .kind ≡ 20 → waiting (decode table) n ≡ callers (decode table) (m .b ∷ [])
   unfolding innerStatements
-  waits-loop e = rw (here (loop-of m e))
+  waits-loop e = rw (statement-here (decode table) n m read (loop-of m e))
 
   pub waits-other : (m .kind ≡ 18 → ⊥) → (m .kind ≡ 19 → ⊥) → (m .kind ≡ 20 → ⊥) → waiting (decode table) n ≡ []
   unfolding innerStatements callers
   waits-other h18 h19 h20 =
-      rw (here {s = statementOf m} refl)
+      rw (statement-here (decode table) n m read {s = statementOf m} refl)
       (by-kind (λ s. callers (decode table) (innerStatements s) ≡ []) m (λ e. refl) (λ e. absurd (h18 e)) (λ e. absurd (h19 e))
       (λ e. absurd (h20 e)) (λ e. refl) (λ e. refl) (λ e. refl) (λ e. refl) (λ e. refl) (λ e. refl) refl)
 
@@ -69,16 +65,16 @@ module _ (table : List ℕ) (n : ℕ) (m : Node) (read : m ≡ nodeAt (decode ta
   module _ (p low : ℕ) where
     pub called-below : m .kind ≡ 21 → m .a < p → low ≡ cond (callsBelow p (statementAt (decode table) n)) low n
     unfolding callsBelow
-    called-below e l = rw (here (call-of m e)) (simp (lt-ltb (m .a) p l))
+    called-below e l = rw (statement-here (decode table) n m read (call-of m e)) (simp (lt-ltb (m .a) p l))
 
     pub called-high : m .kind ≡ 21 → p ≤ m .a → n ≡ cond (callsBelow p (statementAt (decode table) n)) low n
     unfolding callsBelow
-    called-high e l = rw (here (call-of m e)) (simp (le-ltb (m .a) p l))
+    called-high e l = rw (statement-here (decode table) n m read (call-of m e)) (simp (le-ltb (m .a) p l))
 
     pub called-none : (m .kind ≡ 21 → ⊥) → low ≡ cond (callsBelow p (statementAt (decode table) n)) low n
     unfolding callsBelow
     called-none other =
-        rw (here {s = statementOf m} refl)
+        rw (statement-here (decode table) n m read {s = statementOf m} refl)
         (by-kind (λ s. low ≡ cond (callsBelow p s) low n) m (λ e. refl) (λ e. refl) (λ e. refl) (λ e. refl)
         (λ e. absurd (other e)) (λ e. refl) (λ e. refl) (λ e. refl) (λ e. refl) (λ e. refl) refl)
 

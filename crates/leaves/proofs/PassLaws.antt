@@ -201,7 +201,7 @@ module _ (program : Program) (formed : Formed program) (n : ℕ) (low : n < node
         let (first, second) = sequence-fields program formed n m refl is in
         let a = part n (m .a) (isStatement program (m .a)) first in
         let b = part n (m .b) (isStatement program (m .b)) second in
-        let s = statement-here program formed n m refl (sequence-of m is) in
+        let s = statement-here program n m refl (sequence-of m is) in
         pass-joined (m .a) (m .b) (a .0) (b .0) (ap openParts s) (ap isLeave s) (omega arith) false
         (λ reading facts. sym (ap (localIf program) s)) (rw here at j)
 
@@ -213,7 +213,7 @@ module _ (program : Program) (formed : Formed program) (n : ℕ) (low : n < node
         let a = part n (m .a) (isExpression program (m .a)) test in
         let b = part n (m .b) (isStatement program (m .b)) first in
         let c = part n (m .c) (isStatement program (m .c)) second in
-        let s = statement-here program formed n m refl (branch-of m is) in
+        let s = statement-here program n m refl (branch-of m is) in
         let own : m .a % 256 ≡ m .a = omega (arith, a .0, few) in
         pass-joined (m .b) (m .c) (b .0) (c .0) (ap openParts s) (ap isLeave s) (omega arith) local
         (λ reading facts.

@@ -39,7 +39,7 @@ module _ (program : Program) (formed : Formed program) where
   -- a node of the way is passed
   module _ (n inner m : ℕ) (node : Node) (here : node ≡ nodeAt program m) (c : Climbed program n inner m) where
     same-statement : statementAt program m ≡ statementOf node
-    same-statement = statement-here program formed m node here refl
+    same-statement = statement-here program m node here refl
 
     pub climb-found : hasBody node inner ≡ true → m ≡ nearestLoop program n
     climb-found t = sym (nearest-body program formed m (node .a) inner (same-statement ∙ body-of node inner t)) ∙ c .same

@@ -1,7 +1,7 @@
 -- Each outcome of a step, from what the code knows where it answers.
 use mathlib.Core.Bool.{true, false}
 use mathlib.Core.List.{List}
-use mathlib.Core.Path.{_≡_, refl, sym, _∙_, ap}
+use mathlib.Core.Path.{_≡_, refl, _∙_, ap}
 use Prim.Native.Nat.{ℕ}
 use borrow.Author.Tests.{eq-eqb, ne-eqb}
 use Rattle.rules.specs.declared.Event.the-variants.{Moved, Finished, Arrived, Completed, Waiting, Ended}
@@ -14,6 +14,7 @@ use Rattle.rules.specs.Collective.{arrivalOf, completedState, releasedRoll}
 use Rattle.rules.specs.Process.{processAt, withProcess, environment, depth, top, advanced}
 use Rattle.rules.specs.Step.{moved, completed, arrivedAt, stepRunning, stepTaken}
 use Rattle.rules.specs.Table.{Program, Statement, Collective, nodeAt, statementAt, statementOf, onCollective}
+use Rattle.rules.proofs.KindLaws.{statement-here}
 use Rattle.meeting.specs.Meeting.{collectiveOf}
 use Rattle.machine.specs.Outcomes.{Gives}
 use Rattle.process.specs.Given.{isCollective}
@@ -70,8 +71,7 @@ module _ {A : Type 0} (s : Statement) (m : Node) (e : s ≡ statementOf m) (meet
 
 module _ (program : Program) (state roll : List ℕ) (count p : ℕ) (m : Node) (here : m ≡ nodeAt program (top (processAt state p))) where
   is-top : statementAt program (top (processAt state p)) ≡ statementOf m
-  unfolding statementAt
-  is-top = ap statementOf (sym here)
+  is-top = statement-here program _ m here refl
 
   pub run-alone : isCollective (m .kind) ≡ false
       → stepRunning program state roll count p

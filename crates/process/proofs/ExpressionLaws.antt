@@ -38,7 +38,7 @@ module _ (program : Program) (formed : Formed program) (n : ℕ) (m : Node) (her
   pub value-here : (env : Environment) (e : Expression) → expressionOf m ≡ e
       → value program env n ≡ valueOf env (value program env) e
   value-here env e t =
-      value-at program formed env n ∙ ap (λ x. valueOf env (value program env) x) (expression-here program formed n m here t)
+      value-at program formed env n ∙ ap (λ x. valueOf env (value program env) x) (expression-here program n m here t)
 
   pub kind-low : isExpression program n ≡ true → m .kind ≤ lastExpression
   unfolding isExpression

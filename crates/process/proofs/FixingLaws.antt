@@ -31,7 +31,7 @@ plain-kind part (suc (suc (suc (suc (suc (suc k)))))) a b c some few = absurd (o
 
 module _ (program : Program) (formed : Formed program) (n : ℕ) (m : Node) (here : m ≡ nodeAt program n) where
   fixing-here : (e : Expression) → expressionOf m ≡ e → fixing program n ≡ fixingOf (fixing program) e
-  fixing-here e t = fixing-at program formed n ∙ ap (fixingOf (fixing program)) (expression-here program formed n m here t)
+  fixing-here e t = fixing-at program formed n ∙ ap (fixingOf (fixing program)) (expression-here program n m here t)
 
   pub fixed-constant : m .kind ≡ 0 → {v : ℕ} → v ≡ m .b * 512 + m .c → fixed v ≡ fixing program n
   unfolding expressionOf fixingOf

@@ -42,7 +42,7 @@ module _ {table : List ℕ} {header : Header} {words : List ℕ} {count : ℕ} {
   top-below = statement-below (decode table) top-formed (top words) (t .statement)
 
   pub top-statement : {s : Statement} → statementOf m ≡ s → statementAt (decode table) (top words) ≡ s
-  top-statement e = statement-here (decode table) top-formed (top words) m (t .here) e
+  top-statement e = statement-here (decode table) (top words) m (t .here) e
 
   -- a part that question 9 asks about
   pub top-part : {a : ℕ} → expressionPart (decode table) (top words) a ≡ true → Part (decode table) a

@@ -126,8 +126,8 @@ no-leave m other =
     by-kind (λ s. isLeave s ≡ false) m (λ e. refl) (λ e. refl) (λ e. refl) (λ e. refl) (λ e. refl) (λ e. refl) (λ e. refl)
     (λ e. refl) (λ e. refl) (λ e. absurd (other e)) refl
 
--- the fields of a node m that a well-formed table has at n
-module _ (program : Program) (formed : Formed program) (n : ℕ) (m : Node) (here : m ≡ nodeAt program n) where
+-- a node m that a program has at n
+module _ (program : Program) (n : ℕ) (m : Node) (here : m ≡ nodeAt program n) where
   pub expression-here : {e : Expression} → expressionOf m ≡ e → expressionAt program n ≡ e
   unfolding expressionAt
   expression-here t = ap expressionOf (sym here) ∙ t
@@ -136,11 +136,13 @@ module _ (program : Program) (formed : Formed program) (n : ℕ) (m : Node) (her
   unfolding statementAt
   statement-here t = ap statementOf (sym here) ∙ t
 
+-- and its fields, where the program is formed
+module _ (program : Program) (formed : Formed program) (n : ℕ) (m : Node) (here : m ≡ nodeAt program n) where
   of-expression : {e : Expression} → expressionOf m ≡ e → EachFits program n (expressionOperands e)
-  of-expression t = expression-fits program formed n (expression-here t)
+  of-expression t = expression-fits program formed n (expression-here program n m here t)
 
   of-statement : {s : Statement} → statementOf m ≡ s → EachFits program n (statementOperands s)
-  of-statement t = statement-fits program formed n (statement-here t)
+  of-statement t = statement-fits program formed n (statement-here program n m here t)
 
   pub variable-field : m .kind ≡ 1 → m .a < variables program
   variable-field e = ltb-true (m .a) (variables program) (of-expression (variable-of m e) .0)

@@ -30,7 +30,7 @@ module _ (program : Program) (formed : Formed program) (n : ℕ) (low : n < node
 
     pub sequence-inner : innerParts (statementAt program n) ≡ m .a ∷ m .b ∷ []
     unfolding innerParts
-    sequence-inner = ap innerParts (statement-here program formed n m here (sequence-of m is))
+    sequence-inner = ap innerParts (statement-here program n m here (sequence-of m is))
 
   -- kind 19
   module _ (is : m .kind ≡ 19) where
@@ -44,12 +44,12 @@ module _ (program : Program) (formed : Formed program) (n : ℕ) (low : n < node
 
     pub branch-inner : innerParts (statementAt program n) ≡ m .b ∷ m .c ∷ []
     unfolding innerParts
-    branch-inner = ap innerParts (statement-here program formed n m here (branch-of m is))
+    branch-inner = ap innerParts (statement-here program n m here (branch-of m is))
 
     -- by what its condition is fixed as
     pub branch-never : {f : Fixing} → f ≡ fixing program (m .a) → neverParts program (statementAt program n) ≡ neverOf f (m .b) (m .c)
     unfolding neverParts
-    branch-never e = ap (neverParts program) (statement-here program formed n m here (branch-of m is)) ∙ rw e refl
+    branch-never e = ap (neverParts program) (statement-here program n m here (branch-of m is)) ∙ rw e refl
 
   -- kind 20
   module _ (is : m .kind ≡ 20) where
@@ -58,7 +58,7 @@ module _ (program : Program) (formed : Formed program) (n : ℕ) (low : n < node
 
     pub loop-inner : innerParts (statementAt program n) ≡ m .b ∷ []
     unfolding innerParts
-    loop-inner = ap innerParts (statement-here program formed n m here (loop-of m is))
+    loop-inner = ap innerParts (statement-here program n m here (loop-of m is))
 
 -- any other
 module _ (program : Program) (n : ℕ) where

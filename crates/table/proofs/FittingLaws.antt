@@ -12,7 +12,7 @@ use Rattle.rules.specs.Table.{Program, decode, procedures, nodes, body, nodeAt,
 use Rattle.rules.specs.WellFormed.{nodeFits, procedureFits, question6, question9}
 use Rattle.rules.proofs.AnswerLaws.{both-right, each-passed}
 use Rattle.rules.proofs.ChoiceLaws.{bool-cases}
-use Rattle.rules.proofs.ValueLaws.{expression-part-below, statement-part-below}
+use Rattle.rules.proofs.PartLaws.{expression-part-below, statement-part-below}
 use Rattle.table.specs.declared.Header.{Header}
 use Rattle.table.specs.Roles.{roleOf, isPart, fieldFits}
 use Rattle.table.specs.Sized.{Sized}
