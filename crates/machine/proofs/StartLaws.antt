@@ -10,7 +10,7 @@ use lib.Dec.{eqb}
 use lib.ListN.{length, getD}
 use lib.Seq.{ext-getD}
 use borrow.Author.Tests.{lt-ltb, le-ltb, ne-eqb}
-use Rattle.rules.specs.Process.{variablePlaces, gatheredAt, doorsAt, latchesAt, depthAt, stackAt, processWords, depth}
+use Rattle.rules.specs.Process.{variablePlaces, gatheredAt, doorsAt, latchesAt, depthAt, stackAt, processWords}
 use Rattle.rules.specs.Start.{startSize, startProcess}
 use Rattle.rules.specs.Table.{Program, variables, mainBody}
 use Rattle.rules.proofs.VerdictLaws.{Laid, laid}
@@ -22,7 +22,6 @@ module _ (program : Program) (given : List ℕ) (few : variables program ≤ var
 
   behind : (i : ℕ) → latchesAt ≤ i → i < processWords
       → cond (eqb i depthAt) 1 (cond (eqb i stackAt) (mainBody program) 0) ≡ getD (startProcess program given) i 0
-  unfolding depth
   behind i h l =
       elim (decLt i depthAt) [
         | yes b ↦

@@ -22,7 +22,6 @@ back state words p = rw (part-size p)
 
 -- a process's depth in the state
 pub depth-in : (state : List ℕ) (p : ℕ) → depth (processAt state p) ≡ getD state (processWords * p + depthAt) 0
-unfolding depth
 depth-in state p = process-at state p depthAt (omega arith)
 
 -- and once it has other words

@@ -27,7 +27,7 @@ statement-past table formed n l = rw (formed .past n l)
 -- the top of a stack that holds an entry is a statement
 pub top-fits : (program : Program) (words : List ℕ) → stackFits program words ≡ true → 1 ≤ depth words
     → isStatement program (top words) ≡ true
-unfolding stackFits top
+unfolding stackFits
 top-fits program words e l =
     let at : stackAt + (depth words - 1) ≡ depthAt + depth words = omega arith in
     rw at at (all-at (λ i. isStatement program (getD words (stackAt + i) 0)) (depth words) e (depth words - 1) (omega arith))

@@ -35,15 +35,12 @@ stack words = stackOf words (depth words)
 -- the number of words
 
 pub popped-length : (words : List ℕ) → length (popped words) ≡ length words
-unfolding popped
 popped-length words = simp length-set
 
 pub replaced-length : (words : List ℕ) (n : ℕ) → length (replaced words n) ≡ length words
-unfolding replaced
 replaced-length words n = simp length-set
 
 pub pushed-length : (words : List ℕ) (n : ℕ) → length (pushed words n) ≡ length words
-unfolding pushed
 pushed-length words n = simp length-set
 
 pub unwound-length : (w d : ℕ) (words : List ℕ) → length (unwound w d words) ≡ length words
@@ -97,17 +94,14 @@ advanced-length program env words leave = unwound-length (nearestLoop program (t
 -- the words below the depth
 
 pub popped-below : (words : List ℕ) (j : ℕ) → j < depthAt → getD (popped words) j 0 ≡ getD words j 0
-unfolding popped
 popped-below words j h =
     getD-set-other (set words (depthAt + depth words) 0) depthAt j (depth words - 1) 0 (omega arith)
     ∙ getD-set-other words (depthAt + depth words) j 0 0 (omega arith)
 
 pub replaced-below : (words : List ℕ) (n j : ℕ) → j < depthAt → getD (replaced words n) j 0 ≡ getD words j 0
-unfolding replaced
 replaced-below words n j h = getD-set-other words (depthAt + depth words) j n 0 (omega arith)
 
 pub pushed-below : (words : List ℕ) (n j : ℕ) → j < depthAt → getD (pushed words n) j 0 ≡ getD words j 0
-unfolding pushed
 pushed-below words n j h =
     getD-set-other (set words (stackAt + depth words) n) depthAt j (depth words + 1) 0 (omega arith)
     ∙ getD-set-other words (stackAt + depth words) j n 0 (omega arith)
@@ -127,7 +121,6 @@ unwound-below w (suc d) words j h =
 -- a store below the depth keeps depth and entries
 
 pub set-depth : (words : List ℕ) (a v : ℕ) → a < depthAt → depth (set words a v) ≡ depth words
-unfolding depth
 set-depth words a v h = getD-set-other words a depthAt v 0 (omega arith)
 
 pub set-entry : (words : List ℕ) (a v i : ℕ) → a < depthAt → entry (set words a v) i ≡ entry words i
@@ -137,50 +130,41 @@ set-entry words a v i h = getD-set-other words a (stackAt + i) v 0 (omega arith)
 
 module _ (words : List ℕ) (sized : length words ≡ processWords) where
   pub popped-depth : depth (popped words) ≡ depth words - 1
-  unfolding popped
-  popped-depth = unfold depth in
+  popped-depth =
       getD-set-same (set words (depthAt + depth words) 0) depthAt (depth words - 1) 0
       (simp length-set (omega arith))
 
   pub replaced-depth : (n : ℕ) → 0 < depth words → depth (replaced words n) ≡ depth words
-  unfolding replaced
-  replaced-depth n h = unfold depth in getD-set-other words (depthAt + depth words) depthAt n 0 (omega arith)
+  replaced-depth n h = getD-set-other words (depthAt + depth words) depthAt n 0 (omega arith)
 
   pub pushed-depth : (n : ℕ) → depth (pushed words n) ≡ depth words + 1
-  unfolding pushed
-  pushed-depth n = unfold depth in
+  pushed-depth n =
       getD-set-same (set words (stackAt + depth words) n) depthAt (depth words + 1) 0
       (simp length-set (omega arith))
 
   pub top-entry : 0 < depth words → top words ≡ entry words (depth words - 1)
-  unfolding top
   top-entry h = let e : depthAt + depth words ≡ stackAt + (depth words - 1) = omega arith in rw e
 
   pub popped-entry : (i : ℕ) → i < depth words - 1 → entry (popped words) i ≡ entry words i
-  unfolding popped
   popped-entry i h =
       getD-set-other (set words (depthAt + depth words) 0) depthAt (stackAt + i) (depth words - 1) 0 (omega arith)
       ∙ getD-set-other words (depthAt + depth words) (stackAt + i) 0 0 (omega arith)
 
   pub replaced-entry : (n i : ℕ) → i < depth words - 1 → entry (replaced words n) i ≡ entry words i
-  unfolding replaced
   replaced-entry n i h = getD-set-other words (depthAt + depth words) (stackAt + i) n 0 (omega arith)
 
   pub replaced-top : (n : ℕ) → 0 < depth words → depth words ≤ stackPlaces
       → entry (replaced words n) (depth words - 1) ≡ n
-  unfolding replaced
   replaced-top n h b =
       let e : stackAt + (depth words - 1) ≡ depthAt + depth words = omega arith in
       rw e (getD-set-same words (depthAt + depth words) n 0 (omega arith))
 
   pub pushed-entry : (n i : ℕ) → i < depth words → entry (pushed words n) i ≡ entry words i
-  unfolding pushed
   pushed-entry n i h =
       getD-set-other (set words (stackAt + depth words) n) depthAt (stackAt + i) (depth words + 1) 0 (omega arith)
       ∙ getD-set-other words (stackAt + depth words) (stackAt + i) n 0 (omega arith)
 
   pub pushed-top : (n : ℕ) → depth words < stackPlaces → entry (pushed words n) (depth words) ≡ n
-  unfolding pushed
   pushed-top n h =
       getD-set-other (set words (stackAt + depth words) n) depthAt (stackAt + depth words) (depth words + 1) 0 (omega arith)
       ∙ getD-set-same words (stackAt + depth words) n 0 (omega arith)
@@ -271,7 +255,7 @@ gathered-other roll r (suc n) words j h =
 
 pub received-depth : (roll : List ℕ) (count : ℕ) (k : Collective) (p : ℕ) (words : List ℕ) → count ≤ mostProcesses → StoresLow k
     → depth (received roll count k p words) ≡ depth words
-unfolding received depth
+unfolding received
 received-depth roll count barrier p words h low = refl
 received-depth roll count (broadcast a b c) p words h low = set-depth words a _ low
 received-depth roll count (exchange a r) p words h low = gathered-other roll r count words depthAt (λ i l. omega arith)

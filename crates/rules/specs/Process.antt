@@ -73,23 +73,23 @@ environment words own count =
       count = count;
     }
 
-unfoldable pub depth : List ℕ → ℕ
+abbrev pub depth : List ℕ → ℕ
 depth words = getD words depthAt 0
 
 -- the top entry, at stackAt + depth - 1
-unfoldable pub top : List ℕ → ℕ
+abbrev pub top : List ℕ → ℕ
 top words = getD words (depthAt + depth words) 0
 
 -- the top entry goes; "Vacated stack places are 0."
-unfoldable pub popped : List ℕ → List ℕ
+abbrev pub popped : List ℕ → List ℕ
 popped words = set (set words (depthAt + depth words) 0) depthAt (depth words - 1)
 
 -- the top entry becomes another
-unfoldable pub replaced : List ℕ → ℕ → List ℕ
+abbrev pub replaced : List ℕ → ℕ → List ℕ
 replaced words n = set words (depthAt + depth words) n
 
 -- an entry above the top
-unfoldable pub pushed : List ℕ → ℕ → List ℕ
+abbrev pub pushed : List ℕ → ℕ → List ℕ
 pushed words n = set (set words (stackAt + depth words) n) depthAt (depth words + 1)
 
 -- "the stack is popped down to and including the highest entry of that while": entries go until the first that is node w has

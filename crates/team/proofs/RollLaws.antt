@@ -9,7 +9,7 @@ use lib.Seq.{sets, set-out, getD-append-add, ext-getD}
 use Rattle.rules.specs.declared.Arrival.{Arrival}
 use Rattle.rules.specs.declared.Status.{Status}
 use Rattle.rules.specs.declared.Status.the-variants.{Running, Waiting, Ended}
-use Rattle.rules.specs.Arrivals.{arrivalSize, statusNumber, arrivalWords, runningRecord, withArrival, statusAt, arrivalNode, arrivalValue, arrivalSource}
+use Rattle.rules.specs.Arrivals.{arrivalSize, statusNumber, arrivalWords, runningRecord, withArrival}
 use Rattle.meeting.specs.Meeting.{statusOf, arrivalAt}
 use Rattle.team.specs.Roll.{rollWords}
 
@@ -70,7 +70,7 @@ word-at (r ∷ roll) rest (suc p) k l h =
     ∙ word-at roll rest p k (omega arith) h
 
 pub words-at : (roll : List Arrival) (rest : List ℕ) (p : ℕ) → p < length roll → arrivalAt (rollWords roll ++ rest) p ≡ getD roll p runningRecord
-unfolding arrivalAt statusAt arrivalNode arrivalValue arrivalSource
+unfolding arrivalAt
 words-at roll rest p l =
     let e : arrivalSize * p ≡ arrivalSize * p + 0 = omega arith in
     let s : getD (rollWords roll ++ rest) (arrivalSize * p) 0 ≡ statusNumber (getD roll p runningRecord .status)

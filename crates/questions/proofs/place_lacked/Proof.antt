@@ -5,7 +5,7 @@ use Rattle.table.proofs.PassingLaws.{readable, read-formed, read-built}
 use Rattle.rules.proofs.ProcessLaws.{process-length}
 use Rattle.rules.specs.Table.{decode, nodeAt}
 use Rattle.rules.specs.Step.{placeLacked}
-use Rattle.rules.specs.Process.{top, depth}
+use Rattle.rules.specs.Process.{top}
 use borrow.Author.Tests.{eq-eqb, ne-eqb}
 use lib.ListN.{length}
 use native.Mathlib.Omega.{arith}
@@ -38,7 +38,7 @@ shared-slice-read-if2 c =
     )
 
 returns-2 : tie.Need-returns-2
-unfolding placeLacked depth
+unfolding placeLacked
 returns-2 c =
     rw (
       eq-eqb _ _ (sym (c .before .before .before .before .status-at .ensures) ∙ c .before .before .before .if1 .left),
@@ -82,7 +82,7 @@ needs-place-requires c κs =
     rw (process-at .ensures) (run-topped (given .0) (given .1) (given .2) runs here)
 
 returns-3 : tie.Need-returns-3
-unfolding placeLacked depth
+unfolding placeLacked
 returns-3 c =
     let past = c .before .before .before .before .before in
     let process-at = past .process-at in

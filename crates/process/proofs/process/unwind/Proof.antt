@@ -4,7 +4,7 @@ use Rattle.rules.specs.Process.{depth}
 use Rattle.rules.proofs.StackLaws.{popped-length, popped-depth}
 use native.Mathlib.Omega.{arith}
 use lib.ListN.{length}
-use mathlib.Core.Path.{_≡_, refl, sym, _∙_, ap}
+use mathlib.Core.Path.{refl, sym, _∙_, ap}
 use Rattle.process.proofs.process.unwind.Statement.{statement}
 use Rattle.process.proofs.process.unwind.Tie as tie
 
@@ -20,19 +20,14 @@ loop-holds c = record { sized = c .before .pre .0; bounded = c .before .pre .1; 
 slice-read-if1 : tie.Need-slice-read-if1 Inv-loop μ-loop
 slice-read-if1 c = omega arith
 
--- in a turn, the stack holds an entry
-held : (c : tie.Then1 Inv-loop μ-loop) → depth (c .before .before .loop .words) ≡ 0 → ⊥
-unfolding depth
-held c e = c .if1 .taken e
-
 abbrev turn : tie.After-slice-known3 Inv-loop μ-loop → tie.Then1 Inv-loop μ-loop
 turn c = c .before .before .before .before .before .before
 
 top-requires : tie.Need-top-requires Inv-loop μ-loop
-top-requires c κs = unwind-stacked (c .before .before .before .loop .inv) (held (c .before))
+top-requires c κs = unwind-stacked (c .before .before .before .loop .inv) (c .before .if1 .taken)
 
 pop-requires : tie.Need-pop-requires Inv-loop μ-loop
-pop-requires c κs = unwind-stacked (c .before .before .before .before .before .loop .inv) (held (c .before .before .before))
+pop-requires c κs = unwind-stacked (c .before .before .before .before .before .loop .inv) (c .before .before .before .if1 .taken)
 
 same-length : tie.Need-same-length Inv-loop μ-loop
 same-length c =
@@ -45,12 +40,12 @@ returns : tie.Need-returns Inv-loop μ-loop
 returns c =
     let inv = turn (c .before) .before .before .loop .inv in
     let top = c .before .before .before .before .before .top in
-    c .before .before .before .pop .ensures ∙ unwind-found inv (held (turn (c .before))) (sym (top .ensures) ∙ c .if2 .taken)
+    c .before .before .before .pop .ensures ∙ unwind-found inv (turn (c .before) .if1 .taken) (sym (top .ensures) ∙ c .if2 .taken)
 
 loop-less : tie.Need-loop-less Inv-loop μ-loop
 loop-less c =
     let loop = turn (c .before) .before .before .loop in
-    let entry = unwind-stacked (loop .inv) (held (turn (c .before))) in
+    let entry = unwind-stacked (loop .inv) (turn (c .before) .if1 .taken) in
     rw (c .before .before .before .pop .ensures)
     (omega (arith, popped-depth (loop .words) (loop .inv .sized), entry .held))
 
@@ -59,18 +54,13 @@ loop-again c =
     let inv = turn (c .before) .before .before .loop .inv in
     let top = c .before .before .before .before .before .top in
     rw (c .before .before .before .pop .ensures)
-    (unwind-on inv (held (turn (c .before))) (λ e. c .if2 .left (top .ensures ∙ e)))
-
--- past the loop, it holds none
-empty : (c : tie.Else1 Inv-loop μ-loop) → depth (c .before .before .loop .words) ≡ 0
-unfolding depth
-empty c = c .if1 .left
+    (unwind-on inv (turn (c .before) .if1 .taken) (λ e. c .if2 .left (top .ensures ∙ e)))
 
 same-length-2 : tie.Need-same-length-2 Inv-loop μ-loop
 same-length-2 c = c .before .before .loop .inv .sized ∙ sym (c .before .before .before .before .pre .0)
 
 returns-2 : tie.Need-returns-2 Inv-loop μ-loop
-returns-2 c = unwind-end (c .before .before .loop .inv) (empty c)
+returns-2 c = unwind-end (c .before .before .loop .inv) (c .if1 .left)
 
 pub unwind-spec : {M : Type 1} → statement M
 unwind-spec =

@@ -7,7 +7,7 @@ use native.Mathlib.Omega.{arith}
 use lib.Dec.{eqb}
 use lib.ListN.{getD}
 use borrow.Author.Tests.{eq-eqb, ne-eqb}
-use Rattle.rules.specs.Process.{stackAt, depth}
+use Rattle.rules.specs.Process.{stackAt}
 use Rattle.rules.proofs.ChoiceLaws.{Passed, passed-none, passed-more, all-true, all-false}
 use Rattle.questions.proofs.fitting.lies_below.Statement.{statement}
 use Rattle.questions.proofs.fitting.lies_below.Tie as tie
@@ -25,33 +25,27 @@ shared-slice-read-below : tie.Need-shared-slice-read-below Inv-loop μ-loop
 shared-slice-read-below c = omega arith
 
 cast-below : tie.Need-cast-below Inv-loop μ-loop
-unfolding depth
 cast-below c = omega arith
 
 sub-below : tie.Need-sub-below Inv-loop μ-loop
-unfolding depth
 sub-below c = omega arith
 
 loop-holds : tie.Need-loop-holds Inv-loop μ-loop
 loop-holds c = (omega arith, passed-none _)
 
 add-at : tie.Need-add-at Inv-loop μ-loop
-unfolding depth
 add-at c = omega arith
 
 mul-if1 : tie.Need-mul-if1 Inv-loop μ-loop
-unfolding depth
 mul-if1 c = omega arith
 
 shared-slice-read-if1 : tie.Need-shared-slice-read-if1 Inv-loop μ-loop
-unfolding depth
 shared-slice-read-if1 c = omega arith
 
 cast-if1 : tie.Need-cast-if1 Inv-loop μ-loop
 cast-if1 c = omega (arith, c .shared-slice-known2 .given (stackAt + c .before .before .loop .height))
 
 returns : tie.Need-returns Inv-loop μ-loop
-unfolding depth
 returns c =
     let past = c .before .before .before in
     let args = past .before .before .args in
@@ -60,7 +54,6 @@ returns c =
     (ap not (eq-eqb _ _ (c .if1 .taken)))))
 
 add-height : tie.Need-add-height Inv-loop μ-loop
-unfolding depth
 add-height c = omega arith
 
 loop-less : tie.Need-loop-less Inv-loop μ-loop
@@ -75,7 +68,6 @@ loop-again c =
     )
 
 returns-2 : tie.Need-returns-2 Inv-loop μ-loop
-unfolding depth
 returns-2 c =
     let args = c .before .before .before .args in
     ap not

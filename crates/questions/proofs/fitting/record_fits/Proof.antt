@@ -3,7 +3,7 @@ use lib.ListN.{getD}
 use Rattle.questions.proofs.QuestionLaws.{record-empty, top-fits}
 use Rattle.process.specs.Given.{Stacked}
 use Rattle.rules.specs.Step.{leaveFits, recordFits}
-use Rattle.rules.specs.Process.{depthAt, depth, top}
+use Rattle.rules.specs.Process.{depthAt, top}
 use Rattle.rules.specs.WellFormed.{isStatement}
 use borrow.Author.Tests.{ne-eqb, eqb-false, not-true, not-false}
 use native.Mathlib.Omega.{arith}
@@ -24,17 +24,16 @@ fields-zero-requires : tie.Need-fields-zero-requires
 fields-zero-requires c κs = search needs
 
 returns : tie.Need-returns
-unfolding recordFits depth
+unfolding recordFits
 returns c =
     rw (sym (c .before .before .before .before .status-at .ensures) ∙ c .before .before .if1 .taken, c .before .if2 .taken)
     (c .fields-zero .ensures)
 
 returns-2 : tie.Need-returns-2
-unfolding recordFits depth
+unfolding recordFits
 returns-2 c = rw (sym (c .before .before .before .status-at .ensures) ∙ c .before .if1 .taken, c .if2 .left)
 
 returns-3 : tie.Need-returns-3
-unfolding depth
 returns-3 c =
     sym (record-empty _ _ _ _ (λ e. c .before .if1 .left (c .before .before .before .status-at .ensures ∙ e)) (c .if3 .taken))
 
@@ -42,7 +41,7 @@ fields-zero-requires-2 : tie.Need-fields-zero-requires-2
 fields-zero-requires-2 c κs = search needs
 
 returns-4 : tie.Need-returns-4
-unfolding recordFits depth
+unfolding recordFits
 returns-4 c =
     let chosen = c .before .before in
     rw (
@@ -56,7 +55,6 @@ abbrev start : tie.Else3 → tie.Start
 start c = c .before .before .before .before .before .before .before
 
 stacked : (c : tie.Else3) → Stacked (start c .args .words .now)
-unfolding depth
 stacked c =
     let words = start c .args .words .now in
     let some : getD words depthAt 0 ≡ 0 → ⊥ = eqb-false (getD words depthAt 0) 0 (c .if3 .left) in
@@ -71,7 +69,7 @@ leave-on-top-requires c κs =
     (start past .pre .0, stacked past, on-top past)
 
 returns-5 : tie.Need-returns-5
-unfolding recordFits depth leaveFits
+unfolding recordFits leaveFits
 returns-5 c =
     let fits = c .before .before .before in
     let chosen = fits .before in
@@ -92,7 +90,7 @@ leave-fits-requires c κs =
     )
 
 returns-6 : tie.Need-returns-6
-unfolding recordFits depth
+unfolding recordFits
 returns-6 c =
     let fits = c .before .before .before .before in
     let chosen = fits .before in
@@ -109,13 +107,13 @@ wait-fits-requires c κs =
     (start past .pre .0, stacked past, start past .pre .3, on-top past)
 
 returns-7 : tie.Need-returns-7
-unfolding recordFits depth
+unfolding recordFits
 returns-7 c =
     let status-at = c .before .before .before .before .before .before .status-at in
     rw (sym (status-at .ensures) ∙ c .before .if7 .taken, c .before .before .before .if3 .left) (c .wait-fits .ensures)
 
 returns-8 : tie.Need-returns-8
-unfolding recordFits depth
+unfolding recordFits
 returns-8 c =
     let status-at = c .before .before .before .before .before .status-at in
     rw (

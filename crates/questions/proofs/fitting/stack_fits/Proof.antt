@@ -35,30 +35,24 @@ abbrev μ-loop : tie.MeasureT-loop
 μ-loop table header words depth pairs i₀ i = pairs - i
 
 shared-slice-read-depth : tie.Need-shared-slice-read-depth Inv-loop μ-loop
-unfolding depth
 shared-slice-read-depth c = omega arith
 
 cast-depth : tie.Need-cast-depth Inv-loop μ-loop
-unfolding depth
 cast-depth c = omega arith
 
 loop-holds : tie.Need-loop-holds Inv-loop μ-loop
 loop-holds c = (omega arith, passed-none _)
 
 mul-at : tie.Need-mul-at Inv-loop μ-loop
-unfolding depth
 mul-at c = omega arith
 
 add-at : tie.Need-add-at Inv-loop μ-loop
-unfolding depth
 add-at c = omega arith
 
 mul-is-statement : tie.Need-mul-is-statement Inv-loop μ-loop
-unfolding depth
 mul-is-statement c = omega arith
 
 shared-slice-read-is-statement : tie.Need-shared-slice-read-is-statement Inv-loop μ-loop
-unfolding depth
 shared-slice-read-is-statement c = omega arith
 
 cast-is-statement : tie.Need-cast-is-statement Inv-loop μ-loop
@@ -68,22 +62,19 @@ is-statement-requires : tie.Need-is-statement-requires Inv-loop μ-loop
 is-statement-requires c κs = c .before .before .before .before .before .before .pre .0
 
 returns : tie.Need-returns Inv-loop μ-loop
-unfolding stackFits depth
+unfolding stackFits
 returns c =
     let args = c .before .before .before .before .before .before .before .before .args in
     sym (all-false (entry-fits (args .table .now) (args .words .now)) _ (2 * c .before .before .before .before .loop .i) (omega arith)
     (sym (c .before .is-statement .ensures) ∙ not-true _ (c .if1 .taken)))
 
 add-is-statement : tie.Need-add-is-statement Inv-loop μ-loop
-unfolding depth
 add-is-statement c = omega arith
 
 mul-is-statement-2 : tie.Need-mul-is-statement-2 Inv-loop μ-loop
-unfolding depth
 mul-is-statement-2 c = omega arith
 
 shared-slice-read-is-statement-2 : tie.Need-shared-slice-read-is-statement-2 Inv-loop μ-loop
-unfolding depth
 shared-slice-read-is-statement-2 c = omega arith
 
 cast-is-statement-2 : tie.Need-cast-is-statement-2 Inv-loop μ-loop
@@ -93,7 +84,7 @@ is-statement-requires-2 : tie.Need-is-statement-requires-2 Inv-loop μ-loop
 is-statement-requires-2 c κs = c .before .before .before .before .before .before .before .before .before .pre .0
 
 returns-2 : tie.Need-returns-2 Inv-loop μ-loop
-unfolding stackFits depth
+unfolding stackFits
 returns-2 c =
     let args = c .before .before .before .before .before .before .before .before .before .before .before .args in
     let i = c .before .before .before .before .before .before .before .loop .i in
@@ -103,11 +94,9 @@ returns-2 c =
     ∙ not-true _ (c .if2 .taken)))
 
 add-i : tie.Need-add-i Inv-loop μ-loop
-unfolding depth
 add-i c = omega arith
 
 loop-less : tie.Need-loop-less Inv-loop μ-loop
-unfolding depth
 loop-less c = omega arith
 
 loop-again : tie.Need-loop-again Inv-loop μ-loop
@@ -124,22 +113,19 @@ loop-again c =
     (omega arith, λ k l. both k (omega arith))
 
 returns-3 : tie.Need-returns-3 Inv-loop μ-loop
-unfolding stackFits depth
+unfolding stackFits
 returns-3 c =
     let args = c .before .before .before .before .before .before .args in
     let loop = c .before .before .loop in
     sym (all-true (entry-fits (args .table .now) (args .words .now)) _ (λ k l. loop .inv .1 k (omega arith)))
 
 add-is-statement-2 : tie.Need-add-is-statement-2 Inv-loop μ-loop
-unfolding depth
 add-is-statement-2 c = omega arith
 
 mul-is-statement-3 : tie.Need-mul-is-statement-3 Inv-loop μ-loop
-unfolding depth
 mul-is-statement-3 c = omega arith
 
 shared-slice-read-is-statement-3 : tie.Need-shared-slice-read-is-statement-3 Inv-loop μ-loop
-unfolding depth
 shared-slice-read-is-statement-3 c = omega arith
 
 cast-is-statement-3 : tie.Need-cast-is-statement-3 Inv-loop μ-loop
@@ -151,7 +137,7 @@ is-statement-requires-3 : tie.Need-is-statement-requires-3 Inv-loop μ-loop
 is-statement-requires-3 c κs = c .before .before .before .before .before .before .before .pre .0
 
 returns-4 : tie.Need-returns-4 Inv-loop μ-loop
-unfolding stackFits depth
+unfolding stackFits
 returns-4 c =
     let args = c .before .before .before .before .before .before .before .before .args in
     let loop = c .before .before .before .before .loop in

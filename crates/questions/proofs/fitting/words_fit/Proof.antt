@@ -1,5 +1,4 @@
 -- `questions::fitting::words_fit` meets its contract.
-use Rattle.rules.specs.Process.{depth}
 use borrow.Author.Tests.{lt-leb, le-leb, not-true, not-false}
 use mathlib.Core.Path.{sym, _∙_}
 use borrow.Author.Needs.{needs}
@@ -10,22 +9,18 @@ shared-slice-read-if1 : tie.Need-shared-slice-read-if1
 shared-slice-read-if1 c = search needs
 
 returns : tie.Need-returns
-unfolding depth
 returns c = rw (lt-leb _ _ (c .if1 .taken))
 
 stack-fits-requires : tie.Need-stack-fits-requires
-unfolding depth
 stack-fits-requires c κs =
     let given = c .before .before .before .before .before .pre in
     (given .0, given .1, c .if1 .left)
 
 returns-2 : tie.Need-returns-2
-unfolding depth
 returns-2 c =
     rw (le-leb _ _ (c .before .before .if1 .left), sym (c .before .stack-fits .ensures) ∙ not-true _ (c .if2 .taken))
 
 record-fits-requires : tie.Need-record-fits-requires
-unfolding depth
 record-fits-requires c κs =
     let given = c .before .before .before .before .before .before .before .pre in (
       given .0,
@@ -36,7 +31,6 @@ record-fits-requires c κs =
     )
 
 returns-3 : tie.Need-returns-3
-unfolding depth
 returns-3 c =
     rw (
       le-leb _ _ (c .before .before .before .if1 .left),
