@@ -7,12 +7,13 @@ use native.Mathlib.Omega.{arith}
 use borrow.Author.Tests.{leb-true}
 use Rattle.rules.specs.declared.Node.{Node}
 use Rattle.rules.specs.Evaluation.{Environment, valueOf, value}
-use Rattle.rules.specs.Table.{Program, decode, lastExpression, nodeAt, unpacked, expressionOf, Expression, operation}
-use Rattle.rules.specs.WellFormed.{isExpression}
+use Rattle.rules.specs.Table.{Program, decode, lastExpression, nodes, nodeAt, unpacked, expressionOf, Expression, operation}
+use Rattle.rules.specs.WellFormed.{isExpression, expressionPart}
 use Rattle.rules.proofs.Formed.{Formed}
 use Rattle.rules.proofs.KindLaws.{operation-of, expression-here}
+use Rattle.rules.proofs.PartLaws.{expression-part-below, expression-part-sort}
 use Rattle.rules.proofs.ValueLaws.{value-at}
-use Rattle.process.specs.Given.{operatorOf}
+use Rattle.process.specs.Given.{operatorOf, Part}
 
 pub record Packed (m : Node) : Type 0 where
   pub a-low : m .a < 512
@@ -31,6 +32,13 @@ pub operator-of : (m : Node) → 6 ≤ m .kind → m .kind ≤ 12
     → expressionOf m ≡ operation (operatorOf (m .kind)) (m .a) (m .b)
 unfolding operatorOf
 operator-of m h k = operation-of m h k
+
+-- a part of node n lies below it and is an expression of the table
+pub part-lower : (program : Program) (n a : ℕ) → expressionPart program n a ≡ true → n < nodes program
+    → (a < n) × Part program a
+part-lower program n a e l =
+    let below : a < n = expression-part-below program n a e in
+    (below, (omega arith, expression-part-sort program n a e))
 
 -- what the code's tests say of a node m that the table has at n
 module _ (program : Program) (formed : Formed program) (n : ℕ) (m : Node) (here : m ≡ nodeAt program n) where

@@ -5,7 +5,7 @@ use native.Mathlib.Omega.{arith}
 use Rattle.rules.specs.declared.Node.{Node}
 use Rattle.rules.specs.Evaluation.{applied}
 use Rattle.rules.specs.Judgement.{Fixing, fixed, unfixed, bothFixed, fixingOf, fixing}
-use Rattle.rules.specs.Table.{Program, lastExpression, nodeAt, expressionOf, Expression, Operator, constant, operation}
+use Rattle.rules.specs.Table.{Program, lastExpression, nodeAt, expressionOf, Expression, Operator, operation}
 use Rattle.rules.proofs.Formed.{Formed}
 use Rattle.rules.proofs.KindLaws.{expression-here}
 use Rattle.rules.proofs.ValueLaws.{fixing-at}

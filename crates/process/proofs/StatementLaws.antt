@@ -14,10 +14,10 @@ use Rattle.rules.specs.WellFormed.{isStatement, expressionPart, wellFormed}
 use Rattle.rules.proofs.Formed.{Formed, formed, exact}
 use Rattle.rules.proofs.KindLaws.{sequence-of, loop-of, statement-here}
 use Rattle.rules.proofs.KindLaws.{assign-fields, branch-fields, loop-fields, call-field, latch-fields}
-use Rattle.rules.proofs.PartLaws.{expression-part-below, expression-part-sort}
 use Rattle.table.specs.Header.{Passing}
 use Rattle.table.specs.declared.Header.{Header}
 use Rattle.process.specs.Given.{Given, Stacked, Part, Topped, Turn}
+use Rattle.process.proofs.ExpressionLaws.{part-lower}
 
 -- a node past the last is no statement
 pub statement-below : (program : Program) → Formed program → (n : ℕ) → isStatement program n ≡ true → n < nodes program
@@ -46,9 +46,7 @@ module _ {table : List ℕ} {header : Header} {words : List ℕ} {count : ℕ} {
 
   -- a part that question 9 asks about
   pub top-part : {a : ℕ} → expressionPart (decode table) (top words) a ≡ true → Part (decode table) a
-  top-part {a} e =
-      let below : a < top words = expression-part-below (decode table) (top words) a e in
-      (omega (arith, top-below), expression-part-sort (decode table) (top words) a e)
+  top-part {a} e = part-lower (decode table) (top words) a e top-below .1
 
   pub top-test : m .kind ≡ 20 → Part (decode table) (m .a)
   top-test e = top-part (loop-fields (decode table) top-formed (top words) m (t .here) e .0)

@@ -21,14 +21,7 @@ source-of-requires c κs = search needs
 
 returns : tie.Need-returns
 unfolding arrivalAt
-returns c =
-    simp (
-      c .before .before .before .status-of .ensures,
-      c .before .before .before .before .status-at .ensures,
-      c .before .before .node-of .ensures,
-      c .before .value-of .ensures,
-      c .source-of .ensures,
-    )
+returns c = cc
 
 pub read-spec : {M : Type 1} → statement M
 read-spec =

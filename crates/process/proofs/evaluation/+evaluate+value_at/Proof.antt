@@ -1,6 +1,5 @@
 -- `process::evaluation::evaluate` and `value_at` meet their contracts. The measure is twice the node number, and one more for
 -- `value_at`, which hands the same node on.
-use mathlib.Core.Bool.{true}
 use mathlib.Core.List.{List}
 use mathlib.Core.Path.{_≡_, refl, sym, _∙_}
 use native.Mathlib.Omega.{arith}
@@ -10,13 +9,11 @@ use Rattle.rules.specs.declared.Node.{Node}
 use Rattle.rules.specs.Evaluation.{Environment, value, valueOf}
 use Rattle.rules.specs.Process.{processWords, environment}
 use Rattle.rules.specs.Table.{decode, lastExpression, Expression, nodeAt, expressionOf, door, slot, operation}
-use Rattle.rules.specs.WellFormed.{expressionPart}
 use Rattle.rules.proofs.Formed.{Formed, formed}
 use Rattle.rules.proofs.KindLaws.{door-of, slot-of, variable-field, slot-fields, first-part, second-part}
-use Rattle.rules.proofs.PartLaws.{expression-part-below, expression-part-sort}
 use Rattle.process.specs.Given.{operatorOf}
 use Rattle.table.proofs.PassingLaws.{readable, read-built}
-use Rattle.process.proofs.ExpressionLaws.{Packed, packed-here, kind-low, value-here, operator-of}
+use Rattle.process.proofs.ExpressionLaws.{Packed, packed-here, part-lower, kind-low, value-here, operator-of}
 use Prim.Native.Nat.{ℕ, _+_, _*_, _<_, _≤_}
 use borrow.Fn.Kinds.{In}
 use borrow.Fn.PlainCycle.{Measures, is, falls, and}
@@ -139,12 +136,9 @@ evaluate-cast-value-at t c = search needs
 evaluate-value-at-requires : (t : ℕ) → evaluate-lts.Need-value-at-requires (callees t) (evaluate-at t) evaluate.Post
 evaluate-value-at-requires t c κs =
     let read = c .before .before in
-    let n = start t read .args .n in
-    let m = read .node-at .result in
-    let part : expressionPart (decode (table t read)) n (m .a) ≡ true =
-    first-part (decode (table t read)) (shape t read) n m (read .node-at .ensures) (c .before .if1 .left) (low t read) in
-    let below : m .a < n = expression-part-below (decode (table t read)) n (m .a) part in
-    (omega arith, (start t read .pre .1 .0, (omega arith, expression-part-sort (decode (table t read)) n (m .a) part)))
+    let fits = first-part _ (shape t read) _ _ (read .node-at .ensures) (c .before .if1 .left) (low t read) in
+    let part = part-lower _ _ _ fits (start t read .pre .1 .1 .0) in
+    (omega arith, (start t read .pre .1 .0, part .1))
 
 evaluate-door-requires : (t : ℕ) → evaluate-lts.Need-door-requires (callees t) (evaluate-at t) evaluate.Post
 evaluate-door-requires t c κs = start t (c .before .before .before .before) .pre .1 .0 .sized
@@ -185,12 +179,9 @@ evaluate-cast-value-at-2 t c = search needs
 evaluate-value-at-requires-2 : (t : ℕ) → evaluate-lts.Need-value-at-requires-2 (callees t) (evaluate-at t) evaluate.Post
 evaluate-value-at-requires-2 t c κs =
     let read = c .before .before .before .before .before .before in
-    let n = start t read .args .n in
-    let m = read .node-at .result in
-    let part : expressionPart (decode (table t read)) n (m .b) ≡ true =
-    second-part (decode (table t read)) (shape t read) n m (read .node-at .ensures) (omega arith) (low t read) in
-    let below : m .b < n = expression-part-below (decode (table t read)) n (m .b) part in
-    (omega arith, (start t read .pre .1 .0, (omega arith, expression-part-sort (decode (table t read)) n (m .b) part)))
+    let fits = second-part _ (shape t read) _ _ (read .node-at .ensures) (omega arith) (low t read) in
+    let part = part-lower _ _ _ fits (start t read .pre .1 .1 .0) in
+    (omega arith, (start t read .pre .1 .0, part .1))
 
 evaluate-apply-requires : (t : ℕ) → evaluate-lts.Need-apply-requires (callees t) (evaluate-at t) evaluate.Post
 evaluate-apply-requires t c κs = omega arith

@@ -1,18 +1,14 @@
 -- `process::fixing::fixing` meets its contract. The measure is the node number.
-use mathlib.Core.Bool.{true}
 use mathlib.Core.List.{List}
-use mathlib.Core.Path.{_≡_, sym, _∙_, ap}
+use mathlib.Core.Path.{sym, _∙_, ap}
 use native.Mathlib.Omega.{arith}
 use borrow.Author.Needs.{needs}
-use Rattle.rules.specs.declared.Node.{Node}
-use Rattle.rules.specs.Table.{decode, lastExpression, nodeAt}
-use Rattle.rules.specs.WellFormed.{expressionPart}
+use Rattle.rules.specs.Table.{decode, lastExpression}
 use Rattle.rules.proofs.Formed.{Formed, formed}
 use Rattle.rules.proofs.KindLaws.{first-part, second-part}
-use Rattle.rules.proofs.PartLaws.{expression-part-below, expression-part-sort}
 use Rattle.process.specs.Fixed.{fixedAs}
 use Rattle.table.proofs.PassingLaws.{readable, read-built}
-use Rattle.process.proofs.ExpressionLaws.{Packed, packed-here, kind-low}
+use Rattle.process.proofs.ExpressionLaws.{packed-here, part-lower, kind-low}
 use Rattle.process.proofs.FixingLaws.{fixed-constant, fixed-none, fixed-operation, first-unfixed, second-unfixed}
 use Prim.Native.Nat.{ℕ, _<_, _≤_}
 use borrow.Fn.Kinds.{In}
@@ -93,12 +89,9 @@ cast-fixing t c = search needs
 fixing-requires : (t : ℕ) → lts.Need-fixing-requires (callees t) (given t) fixing.Post
 fixing-requires t c κs =
     let read = c .before .before .before in
-    let n = start t read .args .n in
-    let m = read .node-at .result in
-    let part : expressionPart (decode (table t read)) n (m .a) ≡ true =
-    first-part (decode (table t read)) (shape t read) n m (read .node-at .ensures) (omega (arith, c .before .if2 .left)) (low t read) in
-    let low-part : m .a < n = expression-part-below (decode (table t read)) n (m .a) part in
-    (omega arith, (start t read .pre .1 .0, (omega arith, expression-part-sort (decode (table t read)) n (m .a) part)))
+    let fits = first-part _ (shape t read) _ _ (read .node-at .ensures) (omega (arith, c .before .if2 .left)) (low t read) in
+    let part = part-lower _ _ _ fits (start t read .pre .1 .1 .0) in
+    (omega arith, (start t read .pre .1 .0, part .1))
 
 enum-known-first : (t : ℕ) → lts.Need-enum-known-first (callees t) (given t) fixing.Post
 enum-known-first t c = search needs
@@ -118,12 +111,10 @@ cast-fixing-2 t c = search needs
 fixing-requires-2 : (t : ℕ) → lts.Need-fixing-requires-2 (callees t) (given t) fixing.Post
 fixing-requires-2 t c κs =
     let read = c .before .before .before .before .before .before .before .before in
-    let n = start t read .args .n in
-    let m = read .node-at .result in
-    let part : expressionPart (decode (table t read)) n (m .b) ≡ true =
-    second-part (decode (table t read)) (shape t read) n m (read .node-at .ensures) (c .before .before .before .before .before .before .if2 .left) (low t read) in
-    let low-part : m .b < n = expression-part-below (decode (table t read)) n (m .b) part in
-    (omega arith, (start t read .pre .1 .0, (omega arith, expression-part-sort (decode (table t read)) n (m .b) part)))
+    let from = c .before .before .before .before .before .before .if2 .left in
+    let fits = second-part _ (shape t read) _ _ (read .node-at .ensures) from (low t read) in
+    let part = part-lower _ _ _ fits (start t read .pre .1 .1 .0) in
+    (omega arith, (start t read .pre .1 .0, part .1))
 
 enum-known-second : (t : ℕ) → lts.Need-enum-known-second (callees t) (given t) fixing.Post
 enum-known-second t c = search needs

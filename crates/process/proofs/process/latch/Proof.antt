@@ -17,24 +17,16 @@ write-latch-requires c κs = search needs
 pop-requires : tie.Need-pop-requires
 pop-requires c κs =
     let past = c .before .before .before .before .before in
-    let value-at2 = past .value-at2 in
-    let value-at = past .before .before .value-at in
-    let args = past .before .before .before .before .before .before .args in
     let given = past .before .before .before .before .before .before .pre in
     rw (c .before .before .before .write-latch .ensures)
-    (stacked-latch (args .words .now) (value-at .result) (value-at2 .result) (given .1))
+    (stacked-latch _ (past .before .before .value-at .result) (past .value-at2 .result) (given .1))
 
 same-length : tie.Need-same-length
 same-length c = search needs
 
 returns : tie.Need-returns
 unfolding advanced
-returns c =
-    let past = c .before .before .before .before .before .before in
-    let write-latch = past .write-latch in
-    let value-at2 = past .before .before .value-at2 in
-    let value-at = past .before .before .before .before .value-at in
-    rw (← value-at .ensures, ← value-at2 .ensures, ← write-latch .ensures) (c .before .before .pop .ensures)
+returns c = cc
 
 pub latch-spec : {M : Type 1} → statement M
 latch-spec =

@@ -29,9 +29,7 @@ same-length : tie.Need-same-length
 same-length c = search needs
 
 returns : tie.Need-returns
-returns c =
-    let past = c .before .before .before .before in
-    rw (← past .before .top .ensures, ← past .nearest-loop .ensures) (c .before .before .unwind .ensures)
+returns c = cc
 
 pub leave-spec : {M : Type 1} → statement M
 leave-spec =

@@ -23,8 +23,7 @@ same-length : tie.Need-same-length
 same-length c = search needs
 
 returns : tie.Need-returns
-returns c =
-    rw (← c .before .before .before .before .before .before .replace .ensures) (c .before .before .push .ensures)
+returns c = cc
 
 pub sequence-spec : {M : Type 1} → statement M
 sequence-spec = tie.close (tie.spec replace-requires push-requires same-length returns)
