@@ -1,7 +1,7 @@
 -- Laws of the words that a call lends the core: how they are loaded, and what is saved of them.
 use mathlib.Core.List.{List, _++_}
 use mathlib.Core.Path.{_≡_, refl, ap, sym, _∙_, subst}
-use Prim.Native.Nat.{ℕ, zero, suc, _+_, _-_, _*_, _≤_, _<_}
+use Prim.Native.Nat.{ℕ, zero, suc, _+_, _-_, _*_, _≤_, _<_, _^_}
 use native.Mathlib.Decide.{decLt}
 use native.Mathlib.Numerals.{add-one}
 use native.Mathlib.Omega.{arith}
@@ -15,12 +15,24 @@ use Rattle.meeting.specs.Meeting.{arrivalAt}
 use Rattle.team.specs.Roll.{mostLent, lentWords, atMost, rollWords, lentRecords, loaded, saved}
 use Rattle.team.proofs.RollLaws.{words-length, words-append, words-set, words-at}
 
--- what is lent is there, and is at most the most that can be
-pub lent-within : (n : ℕ) → lentRecords n ≤ n
-lent-within n = elim (decLt n mostLent) [ yes l ↦ simp (lt-ltb n mostLent l) (omega arith) | no m ↦ simp (le-ltb n mostLent (omega arith)) (omega arith) ]
+pub most-within : (n limit : ℕ) → atMost n limit ≤ limit
+most-within n limit = elim (decLt n limit) [ yes l ↦ simp (lt-ltb n limit l) (omega arith) | no m ↦ simp (le-ltb n limit (omega arith)) (omega arith) ]
 
-pub lent-few : (n : ℕ) → lentRecords n ≤ mostLent
-lent-few n = elim (decLt n mostLent) [ yes l ↦ simp (lt-ltb n mostLent l) (omega arith) | no m ↦ simp (le-ltb n mostLent (omega arith)) (omega arith) ]
+most-there : (n limit : ℕ) → atMost n limit ≤ n
+most-there n limit = elim (decLt n limit) [ yes l ↦ simp (lt-ltb n limit l) (omega arith) | no m ↦ simp (le-ltb n limit (omega arith)) (omega arith) ]
+
+-- record p of those lent of n: it is there, and the machine has its number, its place in bytes and the number after it
+pub record Lent (n p : ℕ) : Type 0 where
+  pub within : p < n
+  pub few : p < mostLent
+  pub fits : p < 2 ^ 64
+  pub byte-fits : p * 16 < 2 ^ 64
+  pub next-fits : p + 1 < 2 ^ 64
+
+pub lent : (n p : ℕ) → p < lentRecords n → Lent n p
+lent n p less =
+    let few : p < mostLent = omega (arith, most-within n mostLent) in
+    record { within = omega (arith, most-there n mostLent); few = few; fits = omega arith; byte-fits = omega arith; next-fits = omega arith }
 
 -- as much of a list of the limit's length
 pub take-most : (n limit : ℕ) (xs : List Arrival) → length xs ≡ limit → take (atMost n limit) xs ≡ take n xs
@@ -39,9 +51,6 @@ drop-most n limit xs e =
           let shorter : length xs ≤ n = omega (arith, e) in
           simp (le-ltb n limit (omega arith), drop-of-length-le xs short, drop-of-length-le xs shorter)
     ]
-
-pub most-within : (n limit : ℕ) → atMost n limit ≤ limit
-most-within n limit = elim (decLt n limit) [ yes l ↦ simp (lt-ltb n limit l) (omega arith) | no m ↦ simp (le-ltb n limit (omega arith)) (omega arith) ]
 
 -- a list whose first elements were replaced: those, and the others
 module _ (n limit : ℕ) (xs ys : List Arrival) (sized : length xs ≡ limit) (same : length ys ≡ length (take (atMost n limit) xs)) where

@@ -1,10 +1,11 @@
 -- The laws that the proofs of this crate share.
+pub mod Walk
 pub mod RollLaws
 pub mod LendLaws
 pub mod Recorded
 pub mod TeamCalls
 pub mod Rows
-pub mod PlainCalls
+pub mod Calls
 pub mod WordCalls
 pub mod Shared
 pub mod Prefix
