@@ -8,6 +8,7 @@ use mir.Val.{Val, WT, hasTy}
 use prog.Wp.{Heap}
 use ghost.Atoms.{Atoms}
 use types.Kit.{Given}
+use denote.RattleType.{RattleType}
 use denote.Laws.{Is, Tells, Makes}
 use denote.Struct.Laws as LL
 use denote.Enum.Laws as EL
@@ -29,34 +30,24 @@ map-same : (l : List ℕ) → map (λ x. x) l ≡ l
 map-same [] = refl
 map-same (x ∷ l) = ap (λ (t : List ℕ). x ∷ t) (map-same l)
 
-pub start-tell : Tells S′.the-row (Is S′.the-row) (λ r. SL.lowered r ∷ [])
-start-tell = SL.lowers .val-is
+-- what an answer holds, as its own row has it: the words, and the verdict
+words-back : (l : List ℕ) → Is Words (map (λ x. x) l) (wordsVal (map (λ x. x) l) ∷ []) → Is Words l (wordsVal l ∷ [])
+words-back l = subst (λ (l : List ℕ). Is Words l (wordsVal l ∷ [])) (map-same l)
 
--- the words, and the verdict
+enum-back : (R : RattleType) (val : R .Denot → Val) → Tells R (Is R) (λ a. val a ∷ []) → (a : R .Denot) (v : Val) → Is R a (v ∷ []) → Is R a (val a ∷ [])
+enum-back R val tells a v is = subst (Is R a) (tells a (v ∷ []) is) is
+
 pub start-words-is : (r : StartAnswer) (v : Val) → Is S′.the-row r (v ∷ []) → Is Words (r .roll) (wordsVal (r .roll) ∷ [])
-start-words-is r v is = subst (λ (l : List ℕ). Is Words l (wordsVal l ∷ [])) (map-same (r .roll)) (LL.owed S′.the-type SL.the-laws r (v ∷ []) is .1 .0)
-
-pub verdict-tell : Tells V′.the-row (Is V′.the-row) (λ a. VL.lowered a ∷ [])
-verdict-tell = VL.lowers .val-is
+start-words-is r v is = words-back (r .roll) (LL.owed S′.the-type SL.the-laws r (v ∷ []) is .1 .0)
 
 pub start-verdict-is : (r : StartAnswer) (v : Val) → Is S′.the-row r (v ∷ []) → Is V′.the-row (r .answer) (VL.lowered (r .answer) ∷ [])
-start-verdict-is r v is =
-    let here : Is V′.the-row (r .answer) (EL.val V′.the-type VL.the-laws (r .answer) ∷ []) = LL.owed S′.the-type SL.the-laws r (v ∷ []) is .0 in
-    subst (Is V′.the-row (r .answer)) (verdict-tell (r .answer) (EL.val V′.the-type VL.the-laws (r .answer) ∷ []) here) here
-
-pub step-tell : Tells A′.the-row (Is A′.the-row) (λ r. AL.lowered r ∷ [])
-step-tell = AL.lowers .val-is
+start-verdict-is r v is = enum-back V′.the-row VL.lowered (VL.lowers .val-is) (r .answer) _ (LL.owed S′.the-type SL.the-laws r (v ∷ []) is .0)
 
 pub step-words-is : (r : StepAnswer) (v : Val) → Is A′.the-row r (v ∷ []) → Is Words (r .roll) (wordsVal (r .roll) ∷ [])
-step-words-is r v is = subst (λ (l : List ℕ). Is Words l (wordsVal l ∷ [])) (map-same (r .roll)) (LL.owed A′.the-type AL.the-laws r (v ∷ []) is .1 .0)
-
-pub stepped-tell : Tells P′.the-row (Is P′.the-row) (λ a. PL.lowered a ∷ [])
-stepped-tell = PL.lowers .val-is
+step-words-is r v is = words-back (r .roll) (LL.owed A′.the-type AL.the-laws r (v ∷ []) is .1 .0)
 
 pub step-stepped-is : (r : StepAnswer) (v : Val) → Is A′.the-row r (v ∷ []) → Is P′.the-row (r .answer) (PL.lowered (r .answer) ∷ [])
-step-stepped-is r v is =
-    let here : Is P′.the-row (r .answer) (EL.val P′.the-type PL.the-laws (r .answer) ∷ []) = LL.owed A′.the-type AL.the-laws r (v ∷ []) is .0 in
-    subst (Is P′.the-row (r .answer)) (stepped-tell (r .answer) (EL.val P′.the-type PL.the-laws (r .answer) ∷ []) here) here
+step-stepped-is r v is = enum-back P′.the-row PL.lowered (PL.lowers .val-is) (r .answer) _ (LL.owed A′.the-type AL.the-laws r (v ∷ []) is .0)
 
 module _ {M : Type 1} (𝓤 : URA M) (H : Heap 𝓤) (A : Atoms 𝓤) (W : Given 𝓤 H A) where
   pub verdict-make : Makes 𝓤 H A V′.the-row (Is V′.the-row)

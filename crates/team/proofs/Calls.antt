@@ -17,7 +17,7 @@ use prog.Wp.{Heap, Env, Calls, Loops}
 use ghost.Atoms.{Atoms, sem}
 use contract.Lifetimes.{Lfts}
 use contract.Monad.{fact}
-use types.Kit.{Given, Item, Post, Seq, runs, lands, ‵, raw, some, later, _⊛_, ⋆, ++⊢, ⊢++, _$_, cut, use1, split, move, pick, await}
+use types.Kit.{Given, Item, Post, Seq, runs, lands, ‵, raw, some, later, _⊛_, ⋆, _$_, cut, use1, split, move, pick, await}
 use types.Run.{Opds}
 use sound.WpLaws.{FmC}
 use denote.RattleType.{RattleType, Denots, Valss, owns}
@@ -31,7 +31,7 @@ use denote.Triple.End.{Kepts, Fins, lastsOf}
 use denote.Triple.Entry.{alive, onEntry}
 use denote.Triple.Spec.{tripleOf}
 use denote.Triple.Statement.{Contract, Triple}
-use Rattle.team.proofs.Walk.{tokens, tokens-in, tokens-out, entry-in, entry-out, both}
+use Rattle.team.proofs.Walk.{tokens, tokens-in, tokens-out, entry-in, entry-out}
 
 module _ {M : Type 1} (𝓤 : URA M) (H : Heap 𝓤) (A : Atoms 𝓤) (S : Ended) (c : Clauses 𝓤 S) where
   abbrev pub Called : Contract 𝓤
@@ -118,23 +118,19 @@ module _ {M : Type 1} (𝓤 : URA M) (H : Heap 𝓤) (A : Atoms 𝓤) where
     abbrev pub Leaves : Left → List (Item 𝓤)
     Leaves ws = tokens (T .lifetimes) κs (y .0 .1) ++ lefts κs (T .params) (S .kept) (y .0 .3) ws
 
-    pub asks : (ps : Passed) → ent 𝓤 (emp 𝓤) Required → ent 𝓤 (⋆ 𝓤 H A (Brings ps)) (Called 𝓤 H A S c .pre y)
+    asks : (ps : Passed) → ent 𝓤 (emp 𝓤) Required → ent 𝓤 (⋆ 𝓤 H A (Brings ps)) (Called 𝓤 H A S c .pre y)
     asks ps required =
-        let Γ : List (Item 𝓤) = tokens (T .lifetimes) κs (y .0 .1) in
-        let Δ : List (Item 𝓤) = broughts (typesAt (T .params) κs) (y .0 .3) (y .0 .4) ps in
         let P : SProp 𝓤 = onEntry 𝓤 H A T κs (y .0 .1) (y .0 .3) (y .0 .4) in
-        via 𝓤 P (via 𝓤 (sep 𝓤 (⋆ 𝓤 H A Γ) (⋆ 𝓤 H A Δ)) (⊢++ 𝓤 H A Γ Δ)
-        (both 𝓤 H A (⋆ 𝓤 H A Γ) (alive 𝓤 H A T κs (y .0 .1)) (⋆ 𝓤 H A Δ) (sem 𝓤 H A (owns (typesAt (T .params) κs) (y .0 .3) (y .0 .4)))
-        (tokens-in 𝓤 H A (T .lifetimes) κs (y .0 .1)) (broughts-in (typesAt (T .params) κs) (y .0 .3) (y .0 .4) ps)))
+        let Owned : SProp 𝓤 = sem 𝓤 H A (owns (typesAt (T .params) κs) (y .0 .3) (y .0 .4)) in
+        via 𝓤 P
+        (tokens-in 𝓤 H A (T .lifetimes) κs (y .0 .1) Owned (broughts (typesAt (T .params) κs) (y .0 .3) (y .0 .4) ps)
+        (broughts-in (typesAt (T .params) κs) (y .0 .3) (y .0 .4) ps))
         (via 𝓤 (sep 𝓤 Required P) (via 𝓤 (sep 𝓤 (emp 𝓤) P) (emp∗ 𝓤 P) (monoL 𝓤 P required)) (comm∗ 𝓤 Required P))
 
-    pub leaves-out : (ws : Left) → ent 𝓤 (sep 𝓤 (alive 𝓤 H A T κs (y .0 .1)) (sem 𝓤 H A (lasts S κs (y .0 .3) ws))) (⋆ 𝓤 H A (Leaves ws))
+    leaves-out : (ws : Left) → ent 𝓤 (sep 𝓤 (alive 𝓤 H A T κs (y .0 .1)) (sem 𝓤 H A (lasts S κs (y .0 .3) ws))) (⋆ 𝓤 H A (Leaves ws))
     leaves-out ws =
-        let Γ : List (Item 𝓤) = tokens (T .lifetimes) κs (y .0 .1) in
-        let Δ : List (Item 𝓤) = lefts κs (T .params) (S .kept) (y .0 .3) ws in
-        via 𝓤 (sep 𝓤 (⋆ 𝓤 H A Γ) (⋆ 𝓤 H A Δ))
-        (both 𝓤 H A (alive 𝓤 H A T κs (y .0 .1)) (⋆ 𝓤 H A Γ) (sem 𝓤 H A (lasts S κs (y .0 .3) ws)) (⋆ 𝓤 H A Δ)
-        (tokens-out 𝓤 H A (T .lifetimes) κs (y .0 .1)) (lefts-out κs (T .params) (S .kept) (y .0 .3) ws)) (++⊢ 𝓤 H A Γ Δ)
+        tokens-out 𝓤 H A (T .lifetimes) κs (y .0 .1) (sem 𝓤 H A (lasts S κs (y .0 .3) ws)) (lefts κs (T .params) (S .kept) (y .0 .3) ws)
+        (lefts-out κs (T .params) (S .kept) (y .0 .3) ws)
 
 module _ {M : Type 1} {𝓤 : URA M} {H : Heap 𝓤} {A : Atoms 𝓤} (W : Given 𝓤 H A) (S : Ended) (c : Clauses 𝓤 S) (y : Called 𝓤 H A S c .Ghost) where
   abbrev R : RattleType

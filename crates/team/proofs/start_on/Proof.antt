@@ -46,7 +46,7 @@ use Rattle.team.specs.Held.{startRecords}
 use Rattle.team.specs.Roll.{atMost, rollWords}
 use Rattle.team.proofs.StartRecords as R′
 use Rattle.team.proofs.StartRecords.Laws as RL
-use Rattle.team.proofs.AnswerRows.{verdict-tell, verdict-make, verdict-typed}
+use Rattle.team.proofs.AnswerRows.{verdict-make, verdict-typed}
 use Rattle.team.proofs.LendLaws.{take-most, most-within, replaced-take, replaced-drop}
 use Rattle.team.proofs.Calls.{Called, brought, made, calls-told, calls-known}
 use Rattle.team.proofs.Walk.{Params, passed, slice, number, gave, entries, args, Walk, walk-ends, walk-spec}
@@ -156,7 +156,7 @@ module _ {M : Type 1} (𝓤 : URA M) (H : Heap 𝓤) (A : Atoms 𝓤) (W : Given
         move ! (3 ∷ 4 ∷ 5 ∷ 2 ∷ 6 ∷ 7 ∷ 8 ∷ 0 ∷ []) $
         -- [token 0; token 1; token 2; the new token; table; words; state; the records lent; what is kept; _14; …], without _7
         calls-told W start.ended (start.clauses 𝓤 H A mem run) (to-start α l₇ γ) fm known-start (brought, (made (uint-makes 𝓤 H A W w32 processes _ (refl, fits)), (brought, (brought, (brought, tt))))) (id⊢ 𝓤 _) !
-        VL.lowered verdict-tell (λ r zs. Said r (zs .1 .1 .1 .0) (zs .1 .1 .1 .1 .0)) (λ r zs. id⊢ 𝓤 _)
+        VL.lowered (VL.lowers .val-is) (λ r zs. Said r (zs .1 .1 .1 .0) (zs .1 .1 .1 .1 .0)) (λ r zs. id⊢ 𝓤 _)
         (and-then ! (load ! (from ! (stop !)) (look ! 27 refl)) (and-then ! (load ! (from ! (stop !)) (look ! 25 refl)) (and-then ! (load ! (from ! (stop !)) (look ! 23 refl)) (and-then ! (load ! (from ! (stop !)) (look ! 8 refl)) (and-then ! (load ! (from ! (stop !)) (look ! 4 refl)) (no-more !)))))) (λ r zs said is.
         move ! (4 ∷ []) $ fsplit ! $ move ! (1 ∷ []) $ feqL ! (λ same. move ! (5 ∷ []) $ fsplit ! $ move ! (1 ∷ []) $ feqL ! (λ long.
         -- [the records' last list; the state's; token 0; token 1; token 2; the new token; what is kept; _14; …]

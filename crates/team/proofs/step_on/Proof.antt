@@ -46,7 +46,7 @@ use Rattle.team.specs.Held.{stepRecords}
 use Rattle.team.specs.Roll.{atMost, rollWords}
 use Rattle.team.proofs.StepRecords as R′
 use Rattle.team.proofs.StepRecords.Laws as RL
-use Rattle.team.proofs.AnswerRows.{stepped-tell, stepped-make, stepped-typed}
+use Rattle.team.proofs.AnswerRows.{stepped-make, stepped-typed}
 use Rattle.team.proofs.LendLaws.{take-most, most-within, replaced-take, replaced-drop}
 use Rattle.team.proofs.Calls.{Called, brought, made, calls-told, calls-known}
 use Rattle.team.proofs.Walk.{Params, passed, slice, number, gave, entries, args, Walk, walk-ends, walk-spec}
@@ -156,7 +156,7 @@ module _ {M : Type 1} (𝓤 : URA M) (H : Heap 𝓤) (A : Atoms 𝓤) (W : Given
         move ! (3 ∷ 4 ∷ 2 ∷ 5 ∷ 6 ∷ 0 ∷ []) $
         -- [token 0; token 1; the new token; table; state; the records lent; what is kept; _13; …], without _6
         calls-told W step.ended (step.clauses 𝓤 H A mem run) (to-step α l₆ γ) fm known-step (brought, (brought, (brought, (made (uint-makes 𝓤 H A W w32 process _ (refl, fits)), tt)))) (id⊢ 𝓤 _) !
-        PL.lowered stepped-tell (λ r zs. Said r (zs .1 .0) (zs .1 .1 .0)) (λ r zs. id⊢ 𝓤 _)
+        PL.lowered (PL.lowers .val-is) (λ r zs. Said r (zs .1 .0) (zs .1 .1 .0)) (λ r zs. id⊢ 𝓤 _)
         (and-then ! (load ! (from ! (stop !)) (look ! 25 refl)) (and-then ! (load ! (from ! (stop !)) (look ! 8 refl)) (and-then ! (load ! (from ! (stop !)) (look ! 4 refl)) (and-then ! (load ! (from ! (stop !)) (look ! 17 refl)) (no-more !))))) (λ r zs said is.
         move ! (3 ∷ []) $ fsplit ! $ move ! (1 ∷ []) $ feqL ! (λ same. move ! (4 ∷ []) $ fsplit ! $ move ! (1 ∷ []) $ feqL ! (λ long.
         -- [the records' last list; the state's; token 0; token 1; the new token; what is kept; _13; …]
