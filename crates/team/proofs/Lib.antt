@@ -6,9 +6,6 @@ pub mod Recorded
 pub mod TeamCalls
 pub mod Rows
 pub mod Calls
-pub mod WordCalls
-pub mod Shared
-pub mod Prefix
+pub mod Lent
 pub mod RollCalls
-pub mod AnswerRows
 pub mod CoreLaws

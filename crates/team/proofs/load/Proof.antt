@@ -44,7 +44,7 @@ use Rattle.team.proofs.LendLaws.{Lent, lent, loaded-none, loaded-next}
 use Rattle.team.proofs.Calls.{Called, made, calls-known}
 use Rattle.team.proofs.Walk.{Params, slice, entries, Ends, Walk, walk-ends, walk-spec}
 use Rattle.team.proofs.Rows.{Words, wordsTy, wordsVal, words-zero, words-make, words-tell, words-typed, recordVal, record-make, record-typed}
-use Rattle.team.proofs.WordCalls.{AtMost, calls-count, Nearer, nearer-wf}
+use Rattle.team.proofs.RollCalls.{AtMost, calls-count, Nearer, nearer-wf}
 use Rattle.team.proofs.at_most.Symbol.{name as #team·at-most}
 use Rattle.team.proofs.at_most.Met as at-most-thm
 use Rattle.team.proofs.placed as placed

@@ -46,7 +46,7 @@ use Rattle.team.proofs.LendLaws.{Lent, lent, saved-none, saved-next, sa
 use Rattle.team.proofs.Calls.{Called, made, calls-known}
 use Rattle.team.proofs.Walk.{Params, passed, gave, entries, Ends, Walk, walk-ends, walk-spec}
 use Rattle.team.proofs.Rows.{Words, wordsTy, wordsVal, words-tell, words-make, words-typed, recordVal, record-make, record-typed, record-tell}
-use Rattle.team.proofs.WordCalls.{AtMost, calls-count, Nearer, nearer-wf}
+use Rattle.team.proofs.RollCalls.{AtMost, calls-count, Nearer, nearer-wf}
 use Rattle.team.proofs.at_most.Symbol.{name as #team·at-most}
 use Rattle.team.proofs.at_most.Met as at-most-thm
 use Rattle.team.proofs.record_at as record-at

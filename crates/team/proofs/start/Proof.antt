@@ -35,12 +35,11 @@ use Rattle.machine.specs.Layout.{Starts}
 use Rattle.team.specs.Held.{StartsLent}
 use Rattle.team.specs.Roll.{rollWords, lentRecords, loaded, saved}
 use Rattle.team.proofs.StartAnswer.Laws as SL
-use Rattle.team.proofs.AnswerRows.{start-words-is, start-verdict-is, verdict-make, verdict-typed, start-typed}
+use Rattle.team.proofs.Rows.{start-words-is, start-verdict-is, verdict-make, verdict-typed, start-typed, wordsVal, words-make, words-typed}
 use Rattle.team.proofs.LendLaws.{saved-length}
 use Rattle.team.proofs.Calls.{Called, brought, made, calls-told}
 use Rattle.team.proofs.Recorded.{Through, through}
 use Rattle.team.proofs.RollCalls.{Load, Save, calls-load, calls-save}
-use Rattle.team.proofs.Rows.{wordsVal, words-make, words-typed}
 use Rattle.team.proofs.TeamCalls.{start-call}
 use Rattle.team.proofs.load.Symbol.{name as #team·load}
 use Rattle.team.proofs.load.Met as load-thm

@@ -35,13 +35,12 @@ use Rattle.machine.specs.Outcomes.{Gives}
 use Rattle.team.specs.Held.{GivesLent}
 use Rattle.team.specs.Roll.{rollWords, lentRecords, loaded, saved}
 use Rattle.team.proofs.StepAnswer.Laws as AL
-use Rattle.team.proofs.AnswerRows.{step-words-is, step-stepped-is, stepped-make, stepped-typed, step-typed}
+use Rattle.team.proofs.Rows.{step-words-is, step-stepped-is, stepped-make, stepped-typed, step-typed, wordsVal, words-make, words-typed}
 use Rattle.team.proofs.LendLaws.{saved-length}
 use Rattle.team.proofs.Calls.{Called, brought, made, calls-told}
 use Rattle.team.proofs.Walk.{Params, slice, number, gave, entries, args, Walk, walk-ends, walk-spec}
 use Rattle.team.proofs.Recorded.{Through, through}
 use Rattle.team.proofs.RollCalls.{Load, Save, calls-load, calls-save}
-use Rattle.team.proofs.Rows.{wordsVal, words-make, words-typed}
 use Rattle.team.proofs.TeamCalls.{step-call}
 use Rattle.team.proofs.load.Symbol.{name as #team·load}
 use Rattle.team.proofs.load.Met as load-thm

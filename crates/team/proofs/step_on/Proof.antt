@@ -46,13 +46,12 @@ use Rattle.team.specs.Held.{stepRecords}
 use Rattle.team.specs.Roll.{atMost, rollWords}
 use Rattle.team.proofs.StepRecords as R′
 use Rattle.team.proofs.StepRecords.Laws as RL
-use Rattle.team.proofs.AnswerRows.{stepped-make, stepped-typed}
+use Rattle.team.proofs.Rows.{stepped-make, stepped-typed, recordVal, record-tell, record-make, Records, recordsTy, recordsVal, records-tell, records-make, records-typed}
 use Rattle.team.proofs.LendLaws.{take-most, most-within, replaced-take, replaced-drop}
 use Rattle.team.proofs.Calls.{Called, brought, made, calls-told, calls-known}
 use Rattle.team.proofs.Walk.{Params, passed, slice, number, gave, entries, args, Walk, walk-ends, walk-spec}
-use Rattle.team.proofs.Prefix.{LentPart, lends-part, part-back}
-use Rattle.team.proofs.Rows.{recordVal, record-tell, record-make, Records, recordsTy, recordsVal, records-tell, records-make, records-typed}
-use Rattle.team.proofs.WordCalls.{AtMost, calls-count}
+use Rattle.team.proofs.Lent.{LentPart, lends-part, part-back}
+use Rattle.team.proofs.RollCalls.{AtMost, calls-count}
 use Rattle.team.proofs.at_most.Symbol.{name as #team·at-most}
 use Rattle.team.proofs.at_most.Met as at-most-thm
 use Rattle.team.proofs.step as step
