@@ -35,14 +35,14 @@ lent n p less =
     record { within = omega (arith, most-there n mostLent); few = few; fits = omega arith; byte-fits = omega arith; next-fits = omega arith }
 
 -- as much of a list of the limit's length
-pub take-most : (n limit : ℕ) (xs : List Arrival) → length xs ≡ limit → take (atMost n limit) xs ≡ take n xs
+take-most : (n limit : ℕ) (xs : List Arrival) → length xs ≡ limit → take (atMost n limit) xs ≡ take n xs
 take-most n limit xs e =
     elim (decLt n limit) [
       | yes l ↦ simp (lt-ltb n limit l)
       | no m ↦ simp (le-ltb n limit (omega arith), take-all limit xs (omega (arith, e)), take-all n xs (omega (arith, e)))
     ]
 
-pub drop-most : (n limit : ℕ) (xs : List Arrival) → length xs ≡ limit → drop (atMost n limit) xs ≡ drop n xs
+drop-most : (n limit : ℕ) (xs : List Arrival) → length xs ≡ limit → drop (atMost n limit) xs ≡ drop n xs
 drop-most n limit xs e =
     elim (decLt n limit) [
       | yes l ↦ simp (lt-ltb n limit l)
@@ -52,20 +52,27 @@ drop-most n limit xs e =
           simp (le-ltb n limit (omega arith), drop-of-length-le xs short, drop-of-length-le xs shorter)
     ]
 
+pub most-length : (n limit : ℕ) (xs : List Arrival) → length xs ≡ limit → length (take (atMost n limit) xs) ≡ atMost n limit
+most-length n limit xs e = length-take-le (atMost n limit) xs (omega (arith, e, most-within n limit))
+
 -- a list whose first elements were replaced: those, and the others
 module _ (n limit : ℕ) (xs ys : List Arrival) (sized : length xs ≡ limit) (same : length ys ≡ length (take (atMost n limit) xs)) where
   replaced-length : length (ys ++ drop (atMost n limit) xs) ≡ limit
   replaced-length = same-len (atMost n limit) xs ys same ∙ sized
 
   at-seam : length ys ≡ atMost n limit
-  at-seam = same ∙ length-take-le (atMost n limit) xs (omega (arith, sized, most-within n limit))
+  at-seam = same ∙ most-length n limit xs sized
 
-  pub replaced-take : take n (ys ++ drop (atMost n limit) xs) ≡ ys
+  replaced-take : take n (ys ++ drop (atMost n limit) xs) ≡ ys
   replaced-take = sym (take-most n limit (ys ++ drop (atMost n limit) xs) replaced-length) ∙ take-at ys (drop (atMost n limit) xs) (atMost n limit) at-seam
 
-  pub replaced-drop : drop n (ys ++ drop (atMost n limit) xs) ≡ drop n xs
-  replaced-drop =
-      sym (drop-most n limit (ys ++ drop (atMost n limit) xs) replaced-length) ∙ drop-at ys (drop (atMost n limit) xs) (atMost n limit) at-seam ∙ drop-most n limit xs sized
+  -- what is said of the first elements before and after is said of as many of the whole lists, and the others stay
+  pub replaced : (Said : List Arrival → List Arrival → Type 0) → Said (take (atMost n limit) xs) ys
+      → Said (take n xs) (take n (ys ++ drop (atMost n limit) xs)) × (drop n (ys ++ drop (atMost n limit) xs) ≡ drop n xs)
+  replaced Said said = (
+    subst (λ l. Said l (take n (ys ++ drop (atMost n limit) xs))) (take-most n limit xs sized) (subst (Said (take (atMost n limit) xs)) (sym replaced-take) said),
+    sym (drop-most n limit (ys ++ drop (atMost n limit) xs) replaced-length) ∙ drop-at ys (drop (atMost n limit) xs) (atMost n limit) at-seam ∙ drop-most n limit xs sized,
+  )
 
 -- nothing is loaded yet; one record more
 pub loaded-none : (roll : List Arrival) → loaded roll 0 ≡ replicate lentWords 0
