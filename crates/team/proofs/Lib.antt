@@ -1,4 +1,5 @@
 -- The laws that the proofs of this crate share.
+pub mod Words
 pub mod Walk
 pub mod RollLaws
 pub mod LendLaws
