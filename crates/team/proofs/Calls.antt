@@ -1,8 +1,8 @@
 -- A call by the callee's contract. It says nothing of the crate.
 --     Called S c       the contract of the signature S and the clauses c
 --     Passes           how each argument is passed: what it owns is `brought`, from the head of the context, or `made` of a fact
---     calls-told       a call, from the tokens and what is brought. After it there are the tokens and what is said of each `&mut` at exit,
---                      with a fact of the answer r and of what is left
+--     calls-told       a call, from the tokens and what is brought. After it there are the tokens and what is said of each `&mut`
+--                      at exit, with a fact of the answer and of that
 --     calls-known      the same where the contract says what the answer is
 -- Assumes `Given`.
 use mathlib.Core.Path.{_≡_, sym, ap, subst}
@@ -47,7 +47,8 @@ abbrev with-left : {M : Type 1} {𝓤 : URA M} {X : Type 0} (e : Exit X) (x : X)
 with-left unchanged x w Γ = Γ
 with-left (leaves L l S s) x w Γ = ‵ (l x w) ∷ Γ
 
-abbrev pub lefts : {M : Type 1} {𝓤 : URA M} {n : ℕ} (κs : Lfts n) (ss : List (Slot n)) (ks : Kepts ss) (a : Denots (typesAt ss κs)) → Fins κs ss ks a → List (Item 𝓤)
+abbrev pub lefts : {M : Type 1} {𝓤 : URA M} {n : ℕ} (κs : Lfts n) (ss : List (Slot n)) (ks : Kepts ss)
+    (a : Denots (typesAt ss κs)) → Fins κs ss ks a → List (Item 𝓤)
 lefts κs [] ks a ws = []
 lefts κs (s ∷ ss) ks a ws = with-left (s .row κs .exit (ks .0)) (a .0) (ws .0) (lefts κs ss (ks .1) (a .1) (ws .1))
 
@@ -127,39 +128,52 @@ module _ {M : Type 1} (𝓤 : URA M) (H : Heap 𝓤) (A : Atoms 𝓤) where
         (broughts-in (typesAt (T .params) κs) (y .0 .3) (y .0 .4) ps))
         (via 𝓤 (sep 𝓤 Required P) (via 𝓤 (sep 𝓤 (emp 𝓤) P) (emp∗ 𝓤 P) (monoL 𝓤 P required)) (comm∗ 𝓤 Required P))
 
-    leaves-out : (ws : Left) → ent 𝓤 (sep 𝓤 (alive 𝓤 H A T κs (y .0 .1)) (sem 𝓤 H A (lasts S κs (y .0 .3) ws))) (⋆ 𝓤 H A (Leaves ws))
+    leaves-out : (ws : Left)
+        → ent 𝓤 (sep 𝓤 (alive 𝓤 H A T κs (y .0 .1)) (sem 𝓤 H A (lasts S κs (y .0 .3) ws))) (⋆ 𝓤 H A (Leaves ws))
     leaves-out ws =
-        tokens-out 𝓤 H A (T .lifetimes) κs (y .0 .1) (sem 𝓤 H A (lasts S κs (y .0 .3) ws)) (lefts κs (T .params) (S .kept) (y .0 .3) ws)
+        tokens-out 𝓤 H A (T .lifetimes) κs (y .0 .1) (sem 𝓤 H A (lasts S κs (y .0 .3) ws))
+        (lefts κs (T .params) (S .kept) (y .0 .3) ws)
         (lefts-out κs (T .params) (S .kept) (y .0 .3) ws)
 
-module _ {M : Type 1} {𝓤 : URA M} {H : Heap 𝓤} {A : Atoms 𝓤} (W : Given 𝓤 H A) (S : Ended) (c : Clauses 𝓤 S) (y : Called 𝓤 H A S c .Ghost) where
+module _ {M : Type 1} {𝓤 : URA M} {H : Heap 𝓤} {A : Atoms 𝓤} (W : Given 𝓤 H A) (S : Ended) (c : Clauses 𝓤 S)
+    (y : Called 𝓤 H A S c .Ghost) where
   abbrev R : RattleType
   R = Answer 𝓤 H A S c y
 
-  module _ {K : Type 0} {Γ : List (Item 𝓤)} {E : Env 𝓤 H} {C : Calls 𝓤 H} {Λ : Loops 𝓤 H} {q : Post 𝓤 H} {f : Name} {xs : List Operand}
-      {d : Place} {rest : Body} where
+  module _ {K : Type 0} {Γ : List (Item 𝓤)} {E : Env 𝓤 H} {C : Calls 𝓤 H} {Λ : Loops 𝓤 H} {q : Post 𝓤 H} {f : Name}
+      {xs : List Operand} {d : Place} {rest : Body} where
     -- `val r` is the machine value of the answer r
-    pub calls-told : FmC 𝓤 H (W .laws) C → Triple 𝓤 (C f) (Called 𝓤 H A S c) → (ps : Passed 𝓤 H A S c y) → ent 𝓤 (emp 𝓤) (Required 𝓤 H A S c y) → K
+    pub calls-told : FmC 𝓤 H (W .laws) C → Triple 𝓤 (C f) (Called 𝓤 H A S c) → (ps : Passed 𝓤 H A S c y)
+        → ent 𝓤 (emp 𝓤) (Required 𝓤 H A S c y) → K
         → (val : R .Denot → Val) → Tells R (Is R) (λ r. val r ∷ []) → (Said : R .Denot → Left 𝓤 H A S c y → Type 0)
         → ((r : R .Denot) (ws : Left 𝓤 H A S c y) → ent 𝓤 (Ensured 𝓤 H A S c y r ws) (fact 𝓤 (Said r ws)))
         → Opds K W (raw (Called 𝓤 H A S c .pre y) ∷ Γ) E xs (Called 𝓤 H A S c .args y)
-        → ((r : R .Denot) (ws : Left 𝓤 H A S c y) → Said r ws → Is R r (val r ∷ []) → Seq K W (Leaves 𝓤 H A S c y ws ++ Γ) (lands C Λ E d (val r) rest q))
+        → ((r : R .Denot) (ws : Left 𝓤 H A S c y) → Said r ws → Is R r (val r ∷ [])
+        → Seq K W (Leaves 𝓤 H A S c y ws ++ Γ) (lands C Λ E d (val r) rest q))
         → Seq K W (Brings 𝓤 H A S c y ps ++ Γ) (runs C Λ E (seq (call f xs d) rest) q)
     calls-told fm met ps required t val tells Said says os k =
-        cut (Brings 𝓤 H A S c y ps) (raw (Called 𝓤 H A S c .pre y) ∷ []) Γ (asks 𝓤 H A S c y ps required) $ calls-at t fm (Called 𝓤 H A S c) met y os (λ v.
-        use1 W (later (some (λ (r : R .Denot). (raw (alive 𝓤 H A (S .signature) (y .0 .0) (y .0 .1)) ⊛ ‵ (R .own r (v ∷ []))) ⊛ some (λ (ws : Left 𝓤 H A S c y). ‵ (lasts S (y .0 .0) (y .0 .3) ws) ⊛ raw (Ensured 𝓤 H A S c y r ws))))) (id⊢ 𝓤 _) $
-        await t tt $ pick t (λ r. split t $ split t $ move t (1 ∷ []) $ facts t R (Is R) (shows 𝓤 H A R) r (v ∷ []) (λ is. move t (1 ∷ []) $ pick t (λ ws.
+        cut (Brings 𝓤 H A S c y ps) (raw (Called 𝓤 H A S c .pre y) ∷ []) Γ (asks 𝓤 H A S c y ps required) $
+        calls-at t fm (Called 𝓤 H A S c) met y os (λ v.
+        use1 W (later (some (λ (r : R .Denot).
+        (raw (alive 𝓤 H A (S .signature) (y .0 .0) (y .0 .1)) ⊛ ‵ (R .own r (v ∷ [])))
+        ⊛ some (λ (ws : Left 𝓤 H A S c y). ‵ (lasts S (y .0 .0) (y .0 .3) ws) ⊛ raw (Ensured 𝓤 H A S c y r ws))))) (id⊢ 𝓤 _) $
+        await t tt $ pick t (λ r. split t $ split t $ move t (1 ∷ []) $
+        facts t R (Is R) (shows 𝓤 H A R) r (v ∷ []) (λ is. move t (1 ∷ []) $ pick t (λ ws.
         split t $ move t (1 ∷ []) $ use1 W (raw (fact 𝓤 (Said r ws))) (says r ws) $ heard t (Said r ws) (λ said. move t (1 ∷ []) $
-        cut (raw (alive 𝓤 H A (S .signature) (y .0 .0) (y .0 .1)) ∷ ‵ (lasts S (y .0 .0) (y .0 .3) ws) ∷ []) (Leaves 𝓤 H A S c y ws) Γ (leaves-out 𝓤 H A S c y ws) $
+        cut (raw (alive 𝓤 H A (S .signature) (y .0 .0) (y .0 .1)) ∷ ‵ (lasts S (y .0 .0) (y .0 .3) ws) ∷ [])
+        (Leaves 𝓤 H A S c y ws) Γ (leaves-out 𝓤 H A S c y ws) $
         subst (λ (u : Val). Seq K W (Leaves 𝓤 H A S c y ws ++ Γ) (lands C Λ E d u rest q)) (sym (ap only (tells r (v ∷ []) is)))
         (k r ws said (subst (Is R r) (tells r (v ∷ []) is) is)))))))
 
-    pub calls-known : FmC 𝓤 H (W .laws) C → Triple 𝓤 (C f) (Called 𝓤 H A S c) → (ps : Passed 𝓤 H A S c y) → ent 𝓤 (emp 𝓤) (Required 𝓤 H A S c y) → K
+    pub calls-known : FmC 𝓤 H (W .laws) C → Triple 𝓤 (C f) (Called 𝓤 H A S c) → (ps : Passed 𝓤 H A S c y)
+        → ent 𝓤 (emp 𝓤) (Required 𝓤 H A S c y) → K
         → (val : R .Denot → Val) → Tells R (Is R) (λ r. val r ∷ []) → (answer : R .Denot)
         → ((r : R .Denot) (ws : Left 𝓤 H A S c y) → ent 𝓤 (Ensured 𝓤 H A S c y r ws) (fact 𝓤 (r ≡ answer)))
         → Opds K W (raw (Called 𝓤 H A S c .pre y) ∷ Γ) E xs (Called 𝓤 H A S c .args y)
-        → ((ws : Left 𝓤 H A S c y) → Is R answer (val answer ∷ []) → Seq K W (Leaves 𝓤 H A S c y ws ++ Γ) (lands C Λ E d (val answer) rest q))
+        → ((ws : Left 𝓤 H A S c y) → Is R answer (val answer ∷ [])
+        → Seq K W (Leaves 𝓤 H A S c y ws ++ Γ) (lands C Λ E d (val answer) rest q))
         → Seq K W (Brings 𝓤 H A S c y ps ++ Γ) (runs C Λ E (seq (call f xs d) rest) q)
     calls-known fm met ps required t val tells answer says os k =
         calls-told fm met ps required t val tells (λ r ws. r ≡ answer) says os (λ r ws e is.
-        subst (λ (z : R .Denot). Is R z (val z ∷ []) → Seq K W (Leaves 𝓤 H A S c y ws ++ Γ) (lands C Λ E d (val z) rest q)) (sym e) (k ws) is)
+        subst (λ (z : R .Denot). Is R z (val z ∷ []) → Seq K W (Leaves 𝓤 H A S c y ws ++ Γ) (lands C Λ E d (val z) rest q))
+        (sym e) (k ws) is)

@@ -19,7 +19,8 @@ pub most-within : (n limit : ℕ) → atMost n limit ≤ limit
 most-within n limit = elim (decLt n limit) [ yes l ↦ simp (lt-ltb n limit l) (omega arith) | no m ↦ simp (le-ltb n limit (omega arith)) (omega arith) ]
 
 most-there : (n limit : ℕ) → atMost n limit ≤ n
-most-there n limit = elim (decLt n limit) [ yes l ↦ simp (lt-ltb n limit l) (omega arith) | no m ↦ simp (le-ltb n limit (omega arith)) (omega arith) ]
+most-there n limit = elim (decLt n limit)
+    [ yes l ↦ simp (lt-ltb n limit l) (omega arith) | no m ↦ simp (le-ltb n limit (omega arith)) (omega arith) ]
 
 -- record p of those lent of n: it is there, and the machine has its number, its place in bytes and the number after it
 pub record Lent (n p : ℕ) : Type 0 where
@@ -31,8 +32,9 @@ pub record Lent (n p : ℕ) : Type 0 where
 
 pub lent : (n p : ℕ) → p < lentRecords n → Lent n p
 lent n p less =
+    let there : p < n = omega (arith, most-there n mostLent) in
     let few : p < mostLent = omega (arith, most-within n mostLent) in
-    record { within = omega (arith, most-there n mostLent); few = few; fits = omega arith; byte-fits = omega arith; next-fits = omega arith }
+    record { within = there; few = few; fits = omega arith; byte-fits = omega arith; next-fits = omega arith }
 
 -- as much of a list of the limit's length
 take-most : (n limit : ℕ) (xs : List Arrival) → length xs ≡ limit → take (atMost n limit) xs ≡ take n xs
@@ -70,8 +72,11 @@ module _ (n limit : ℕ) (xs ys : List Arrival) (sized : length xs ≡ limit) (s
   pub replaced : (Said : List Arrival → List Arrival → Type 0) → Said (take (atMost n limit) xs) ys
       → Said (take n xs) (take n (ys ++ drop (atMost n limit) xs)) × (drop n (ys ++ drop (atMost n limit) xs) ≡ drop n xs)
   replaced Said said = (
-    subst (λ l. Said l (take n (ys ++ drop (atMost n limit) xs))) (take-most n limit xs sized) (subst (Said (take (atMost n limit) xs)) (sym replaced-take) said),
-    sym (drop-most n limit (ys ++ drop (atMost n limit) xs) replaced-length) ∙ drop-at ys (drop (atMost n limit) xs) (atMost n limit) at-seam ∙ drop-most n limit xs sized,
+    subst (λ l. Said l (take n (ys ++ drop (atMost n limit) xs))) (take-most n limit xs sized)
+        (subst (Said (take (atMost n limit) xs)) (sym replaced-take) said),
+    sym (drop-most n limit (ys ++ drop (atMost n limit) xs) replaced-length)
+        ∙ drop-at ys (drop (atMost n limit) xs) (atMost n limit) at-seam
+        ∙ drop-most n limit xs sized,
   )
 
 -- nothing is loaded yet; one record more

@@ -105,13 +105,18 @@ module _ (R : RattleType) (val : R .Denot → Val) (n : ℕ) where
 
     module _ (κ : Lft) (xs : List (R .Denot)) (k b : ℕ) where
       pub lends-part : (ℓ : Lifetime) → Is (Array R n) xs (arrayOf xs ∷ []) → Room R (length (take k xs))
-          → ent 𝓤 (H .at fullShare arrayTy b 0 (arrayOf xs)) (H .⇛ (ex 𝓤 (λ (γ : GName). sep 𝓤 (sem 𝓤 H A (MutSlice ℓ κ R .own (part κ xs k b γ) (part-vals κ xs k b))) (sem 𝓤 H A (LentPart κ xs k b γ)))))
+          → ent 𝓤 (H .at fullShare arrayTy b 0 (arrayOf xs))
+          (H .⇛ (ex 𝓤 (λ (γ : GName). sep 𝓤 (sem 𝓤 H A (MutSlice ℓ κ R .own (part κ xs k b γ) (part-vals κ xs k b)))
+          (sem 𝓤 H A (LentPart κ xs k b γ)))))
       lends-part ℓ is room =
           qed W (‵ (fat fullShare arrayTy b 0 (arrayOf xs)) ∷ []) ∵ updating ! $ use1 W (‵ (cells (mem R) xs b 0)) (array-out xs b is) $
           rewrite ! 0 (λ (l : List (R .Denot)). ‵ (cells (mem R) l b 0)) (sym (take-append-drop k xs)) refl $
           use1 W (‵ (cells (mem R) (take k xs) b 0) ⊛ ‵ (cells (mem R) (drop k xs) b (at 0 (mem R .size) (length (take k xs))))) (cut-app 𝓤 H A (mem R) (take k xs) (drop k xs) b 0) $ split ! $
-          use1 W (later (some (λ (γ : GName). ‵ (MutSlice ℓ κ R .own (part κ xs k b γ) (part-vals κ xs k b)) ⊛ ‵ (flent κ (Held R (length (take k xs)) b 0 γ))))) (lends-slice 𝓤 H A W R ℓ κ (take k xs) b 0 room) $ await ! tt $ pick ! (λ γ. split ! $
-          at-once ! $ show ! (λ (δ : GName). sep 𝓤 (sem 𝓤 H A (MutSlice ℓ κ R .own (part κ xs k b δ) (part-vals κ xs k b))) (sem 𝓤 H A (LentPart κ xs k b δ))) γ $ frame ! $ fjoin ! $ done !)
+          use1 W (later (some (λ (γ : GName). ‵ (MutSlice ℓ κ R .own (part κ xs k b γ) (part-vals κ xs k b))
+          ⊛ ‵ (flent κ (Held R (length (take k xs)) b 0 γ))))) (lends-slice 𝓤 H A W R ℓ κ (take k xs) b 0 room) $ await ! tt $
+          pick ! (λ γ. split ! $
+          at-once ! $ show ! (λ (δ : GName). sep 𝓤 (sem 𝓤 H A (MutSlice ℓ κ R .own (part κ xs k b δ) (part-vals κ xs k b)))
+          (sem 𝓤 H A (LentPart κ xs k b δ))) γ $ frame ! $ fjoin ! $ done !)
 
       pub part-back : (γ : GName) (zs : List (R .Denot)) → length xs ≡ n → length zs ≡ length (take k xs)
           → ent 𝓤 (sep 𝓤 (A .dead κ) (sep 𝓤 (sem 𝓤 H A (LentPart κ xs k b γ)) (sem 𝓤 H A (finally R γ zs))))

@@ -100,9 +100,11 @@ module _ {M : Type 1} {𝓤 : URA M} {H : Heap 𝓤} {A : Atoms 𝓤} {K : Type 
       use2 W (later (some (λ (γ₁ : GName). ‵ (ShrSlice (named 0) (α ∷ []) T.the-row .own (roll b o ys γ₁) (rollVal b o ys ∷ [])) ⊛ ‵ (LentShared T.the-row κ (α ∷ []) q γ b o ys)))) (lends-shared T.the-row κ (α ∷ []) q γ b o ys 𝓤 H A W ℓ (named 0)) $
       await t tt $ pick t (λ γ₁. split t $ move t (2 ∷ 0 ∷ []) $
       -- [the new token; the shared slice; what is kept; …]
-      calls-known W load.ended (load.clauses 𝓤 H A mem run) (to-load 𝓤 H A mem run (α ∷ []) fullShare b o ys γ₁) fm met (brought, tt) (id⊢ 𝓤 _) t
+      calls-known W load.ended (load.clauses 𝓤 H A mem run) (to-load 𝓤 H A mem run (α ∷ []) fullShare b o ys γ₁) fm met
+      (brought, tt) (id⊢ 𝓤 _) t
       wordsVal words-tell (loaded ys (lentRecords (length ys))) (λ r _. id⊢ 𝓤 _) (os α γ₁) (λ _ is. lft-end t tt $
-      use2 W (later (‵ (MutSlice ℓ κ T.the-row .own (roll b o ys γ) (rollVal b o ys ∷ [])) ⊛ ‵ (flft κ q))) (shared-back T.the-row κ (α ∷ []) q γ b o ys 𝓤 H A W ℓ (named 0) room) $ await t tt $ split t $ k is)))
+      use2 W (later (‵ (MutSlice ℓ κ T.the-row .own (roll b o ys γ) (rollVal b o ys ∷ [])) ⊛ ‵ (flft κ q)))
+      (shared-back T.the-row κ (α ∷ []) q γ b o ys 𝓤 H A W ℓ (named 0) room) $ await t tt $ split t $ k is)))
 
   pub calls-save : K → (mem : Memory → SProp 𝓤) (run : Routine → Fun 𝓤) → FmC 𝓤 H (W .laws) C → Triple 𝓤 (C #team·save) (Save 𝓤 H A mem run)
       → (ℓ : Lifetime) (κ : Lft) (q : Share) (b o : ℕ) (ys : List Arrival) (γ : GName) (words : List ℕ) → Is Words words (wordsVal words ∷ [])
@@ -111,7 +113,9 @@ module _ {M : Type 1} {𝓤 : URA M} {H : Heap 𝓤} {A : Atoms 𝓤} {K : Type 
       → Seq K W (‵ (MutSlice ℓ κ T.the-row .own (roll b o ys γ) (rollVal b o ys ∷ [])) ∷ ‵ (flft κ q) ∷ Γ) (runs C Λ E (seq (call #team·save xs d) rest) p)
   calls-save t mem run fm met ℓ κ q b o ys γ words ws os k =
       move t (1 ∷ 0 ∷ []) $
-      calls-told W save.ended (save.clauses 𝓤 H A mem run) (to-save 𝓤 H A mem run κ q b o ys γ words) fm met (brought, (made (words-make 𝓤 H A W words _ ws), tt)) (id⊢ 𝓤 _) t
+      calls-told W save.ended (save.clauses 𝓤 H A mem run) (to-save 𝓤 H A mem run κ q b o ys γ words) fm met
+      (brought, (made (words-make 𝓤 H A W words _ ws), tt)) (id⊢ 𝓤 _) t
       (λ _. vunit) (λ r vs is. is) (λ r zs. zs .0 ≡ saved words (lentRecords (length ys)) ys) (λ r zs. id⊢ 𝓤 _) os (λ r zs e is.
       -- [the token; what is said of the roll; …]
-      move t (1 ∷ []) $ fsplit t $ move t (1 ∷ []) $ drop t $ rewrite t 0 (λ (l : List Arrival). ‵ (finally T.the-row γ l)) e refl $ k)
+      move t (1 ∷ []) $ fsplit t $ move t (1 ∷ []) $ drop t $
+      rewrite t 0 (λ (l : List Arrival). ‵ (finally T.the-row γ l)) e refl $ k)

@@ -85,20 +85,23 @@ map-same (x ∷ l) = ap (λ (t : List ℕ). x ∷ t) (map-same l)
 words-back : (l : List ℕ) → Is Words (map (λ x. x) l) (wordsVal (map (λ x. x) l) ∷ []) → Is Words l (wordsVal l ∷ [])
 words-back l = subst (λ (l : List ℕ). Is Words l (wordsVal l ∷ [])) (map-same l)
 
-enum-back : (R : RattleType) (val : R .Denot → Val) → Tells R (Is R) (λ a. val a ∷ []) → (a : R .Denot) (v : Val) → Is R a (v ∷ []) → Is R a (val a ∷ [])
+enum-back : (R : RattleType) (val : R .Denot → Val) → Tells R (Is R) (λ a. val a ∷ []) → (a : R .Denot) (v : Val)
+    → Is R a (v ∷ []) → Is R a (val a ∷ [])
 enum-back R val tells a v is = subst (Is R a) (tells a (v ∷ []) is) is
 
 pub start-words-is : (r : StartAnswer) (v : Val) → Is S′.the-row r (v ∷ []) → Is Words (r .roll) (wordsVal (r .roll) ∷ [])
 start-words-is r v is = words-back (r .roll) (LL.owed S′.the-type SL.the-laws r (v ∷ []) is .1 .0)
 
 pub start-verdict-is : (r : StartAnswer) (v : Val) → Is S′.the-row r (v ∷ []) → Is V′.the-row (r .answer) (VL.lowered (r .answer) ∷ [])
-start-verdict-is r v is = enum-back V′.the-row VL.lowered (VL.lowers .val-is) (r .answer) _ (LL.owed S′.the-type SL.the-laws r (v ∷ []) is .0)
+start-verdict-is r v is = enum-back V′.the-row VL.lowered (VL.lowers .val-is) (r .answer) _
+    (LL.owed S′.the-type SL.the-laws r (v ∷ []) is .0)
 
 pub step-words-is : (r : StepAnswer) (v : Val) → Is A′.the-row r (v ∷ []) → Is Words (r .roll) (wordsVal (r .roll) ∷ [])
 step-words-is r v is = words-back (r .roll) (LL.owed A′.the-type AL.the-laws r (v ∷ []) is .1 .0)
 
 pub step-stepped-is : (r : StepAnswer) (v : Val) → Is A′.the-row r (v ∷ []) → Is P′.the-row (r .answer) (PL.lowered (r .answer) ∷ [])
-step-stepped-is r v is = enum-back P′.the-row PL.lowered (PL.lowers .val-is) (r .answer) _ (LL.owed A′.the-type AL.the-laws r (v ∷ []) is .0)
+step-stepped-is r v is = enum-back P′.the-row PL.lowered (PL.lowers .val-is) (r .answer) _
+    (LL.owed A′.the-type AL.the-laws r (v ∷ []) is .0)
 
 module _ {M : Type 1} (𝓤 : URA M) (H : Heap 𝓤) (A : Atoms 𝓤) (W : Given 𝓤 H A) where
   pub words-make : Makes 𝓤 H A Words (Is Words)

@@ -1,10 +1,11 @@
 -- What a walk by hand begins with, ends in and becomes. It says nothing of the crate.
 --     tokens, owneds       the tokens of a signature's lifetimes, and what its parameters own, as entries of a context
 --     Param s k            a parameter of the slot s: its machine values at entry, and what the walk has of it at exit
---     passed               nothing: it is passed by value or by `&`.        gave, keeps     a `&mut [T]` that is given up, or held
+--     passed, number, slice    a value or a `&[T]`: nothing is had of it at exit.        gave     a `&mut [T]` that is given up
 --     Params, stays        for a list of slots.        leavings     what is had at exit, as entries of a context
---     walk-spec            a walk from those entries to the walk's end is the proof of the contract
---     walk-ends            at exit: the tokens and the leavings are enough, with the answer and what is ensured of it
+--     Walk                 a run from the entries to the walk's end
+--     walk-ends            the tokens and the leavings are such an end, with the answer and what is ensured of it
+--     walk-spec            a walk at all lifetimes and arguments is the proof of the contract
 -- Assumes `Given`.
 use mathlib.Core.List.{List, [], _∷_, _++_}
 use mathlib.Core.Option.{Option, none, some}
@@ -105,8 +106,10 @@ pub record Param {n : ℕ} (s : Slot n) (k : Kept) : Type 2 where
       → Goes 𝓤 H A W n s k (record { fit = fit; has = λ κs x f vs. held (had κs x f) })
 
 module _ {n : ℕ} where
-  abbrev pub passed : (F : Lfts n → RattleType) (vals : (κs : Lfts n) → F κs .Denot → List Val) → ((κs : Lfts n) → Tells (F κs) (Is (F κs)) (vals κs))
-      → ((κs : Lfts n) (x : F κs .Denot) (f : Last (F κs .exit yes) x) → left (F κs .exit yes) x f ≡ ftrue) → Param {n = n} (plain F) yes
+  abbrev pub passed : (F : Lfts n → RattleType) (vals : (κs : Lfts n) → F κs .Denot → List Val)
+      → ((κs : Lfts n) → Tells (F κs) (Is (F κs)) (vals κs))
+      → ((κs : Lfts n) (x : F κs .Denot) (f : Last (F κs .exit yes) x) → left (F κs .exit yes) x f ≡ ftrue)
+      → Param {n = n} (plain F) yes
   passed F vals tells silent = record {
     vals = vals;
     tells = tells;
@@ -119,11 +122,13 @@ module _ {n : ℕ} where
   number w = passed (λ _. UInt w) (λ _. uint-vals w) (λ _. uint-tells w) (λ κs x f. refl)
 
   -- a `&[R]`, and a `&mut [R]` that is given up
-  abbrev pub slice : (j : ℕ) (ok : AllWithin n (j ∷ [])) (R : RattleType) → Param {n = n} (shrSliceOf (j ∷ []) ok (plain (λ _. R))) yes
+  abbrev pub slice : (j : ℕ) (ok : AllWithin n (j ∷ [])) (R : RattleType)
+      → Param {n = n} (shrSliceOf (j ∷ []) ok (plain (λ _. R))) yes
   slice j ok R = passed (shrSliceOf {n = n} (j ∷ []) ok (plain (λ _. R)) .row) (λ _. slice-vals)
       (λ κs. shr-slice-tells (named j) (meetAt n (j ∷ []) ok κs) R) (λ κs x f. refl)
 
-  abbrev pub gave : (j : ℕ) (ok : AllWithin n (j ∷ [])) (R : RattleType) → Param {n = n} (mutSliceOf (j ∷ []) ok (plain (λ _. R))) yes
+  abbrev pub gave : (j : ℕ) (ok : AllWithin n (j ∷ [])) (R : RattleType)
+      → Param {n = n} (mutSliceOf (j ∷ []) ok (plain (λ _. R))) yes
   gave j ok R = record {
     vals = λ _. slice-vals;
     tells = λ κs. mut-slice-tells (named j) (meetAt n (j ∷ []) ok κs) R;
@@ -145,7 +150,8 @@ module _ {n : ℕ} where
     spells [] ks ps = tt
     spells (s ∷ ss) ks ps = (ps .0 .vals κs, spells ss (ks .1) (ps .1))
 
-    all-tell : (ss : List (Slot n)) (ks : Kepts ss) (ps : Params ss ks) → Tellss (typesAt ss κs) (Ises (typesAt ss κs)) (spells ss ks ps)
+    all-tell : (ss : List (Slot n)) (ks : Kepts ss) (ps : Params ss ks)
+        → Tellss (typesAt ss κs) (Ises (typesAt ss κs)) (spells ss ks ps)
     all-tell [] ks ps = tt
     all-tell (s ∷ ss) ks ps = (ps .0 .tells κs, all-tell ss (ks .1) (ps .1))
 
@@ -159,8 +165,9 @@ module _ {n : ℕ} where
     all-go W [] ks ps = tt
     all-go W (s ∷ ss) ks ps = (ps .0 .goes 𝓤 H A W, all-go W ss (ks .1) (ps .1))
 
-    leavings-in : (κs : Lfts n) (ss : List (Slot n)) (ks : Kepts ss) (ps : Params ss ks) (a : Denots (typesAt ss κs)) (ws : Fins κs ss ks a)
-        (vss : Valss (typesAt ss κs)) → ent 𝓤 (⋆ 𝓤 H A (leavings κs ss ks ps a ws)) (sem 𝓤 H A (hasOf κs ss ks (stays ss ks ps) a ws vss))
+    leavings-in : (κs : Lfts n) (ss : List (Slot n)) (ks : Kepts ss) (ps : Params ss ks) (a : Denots (typesAt ss κs))
+        (ws : Fins κs ss ks a) (vss : Valss (typesAt ss κs))
+        → ent 𝓤 (⋆ 𝓤 H A (leavings κs ss ks ps a ws)) (sem 𝓤 H A (hasOf κs ss ks (stays ss ks ps) a ws vss))
     leavings-in κs [] ks ps a ws vss = id⊢ 𝓤 (emp 𝓤)
     leavings-in κs (s ∷ ss) ks ps a ws vss =
         held-in 𝓤 H A (ps .0 .had κs (a .0) (ws .0))
@@ -193,7 +200,8 @@ module _ (T : Ended) (ps : Params (T .signature .params) (T .kept)) where
     abbrev exits : {M : Type 1} {𝓤 : URA M} → Lasts T κs a → List (Item 𝓤)
     exits ws = tokens (S .lifetimes) κs qs ++ leavings κs (S .params) (T .kept) ps a ws
 
-    module _ (bounds : AllOutlive (S .lifetimes) (S .outlives) κs) {M : Type 1} (𝓤 : URA M) (H : Heap 𝓤) (A : Atoms 𝓤) (c : Clauses 𝓤 T) (g : c κs a .ghost) where
+    module _ (bounds : AllOutlive (S .lifetimes) (S .outlives) κs) {M : Type 1} (𝓤 : URA M) (H : Heap 𝓤) (A : Atoms 𝓤)
+        (c : Clauses 𝓤 T) (g : c κs a .ghost) where
       abbrev pub Ends : Val → SProp 𝓤
       Ends = walkOf 𝓤 H A T staysOf c .post ((κs, qs, bounds, a, valsOf), g)
 
@@ -201,37 +209,45 @@ module _ (T : Ended) (ps : Params (T .signature .params) (T .kept)) where
       Walk run = ent 𝓤 (⋆ 𝓤 H A entries) (run args Ends)
 
       pub walk-ends : Given 𝓤 H A → (v : Val) (r : Res S κs) (ws : Lasts T κs a) → Fit T staysOf κs a ws
-          → ent 𝓤 (emp 𝓤) (sem 𝓤 H A (typeAt (S .result) κs .own r (v ∷ []))) → ent 𝓤 (emp 𝓤) (c κs a .ensures g r (atExit T κs a ws))
+          → ent 𝓤 (emp 𝓤) (sem 𝓤 H A (typeAt (S .result) κs .own r (v ∷ [])))
+          → ent 𝓤 (emp 𝓤) (c κs a .ensures g r (atExit T κs a ws))
           → ent 𝓤 (⋆ 𝓤 H A (exits ws)) (Ends v)
       walk-ends W v r ws fits made said =
           let Had : Fml = hasOf κs (S .params) (T .kept) staysOf a ws valsOf in
           via 𝓤 (sep 𝓤 (alive 𝓤 H A S κs qs) (sem 𝓤 H A Had))
-          (tokens-in 𝓤 H A (S .lifetimes) κs qs (sem 𝓤 H A Had) (leavings κs (S .params) (T .kept) ps a ws) (leavings-in 𝓤 H A κs (S .params) (T .kept) ps a ws valsOf))
-          (qed W (raw (alive 𝓤 H A S κs qs) ∷ ‵ Had ∷ []) ∵ suffices ! _ (ends-at 𝓤 H A T staysOf c W ((κs, qs, bounds, a, valsOf), g) v r ws fits) $
+          (tokens-in 𝓤 H A (S .lifetimes) κs qs (sem 𝓤 H A Had) (leavings κs (S .params) (T .kept) ps a ws)
+          (leavings-in 𝓤 H A κs (S .params) (T .kept) ps a ws valsOf))
+          (qed W (raw (alive 𝓤 H A S κs qs) ∷ ‵ Had ∷ []) ∵
+          suffices ! _ (ends-at 𝓤 H A T staysOf c W ((κs, qs, bounds, a, valsOf), g) v r ws fits) $
           use0 W (‵ (typeAt (S .result) κs .own r (v ∷ []))) made $ move ! (2 ∷ 0 ∷ []) $ join ! $ move ! (1 ∷ 0 ∷ []) $ join ! $
           use0 W (raw (c κs a .ensures g r (atExit T κs a ws))) said $ move ! (1 ∷ 0 ∷ []) $ done !)
 
   module _ {M : Type 1} (𝓤 : URA M) (H : Heap 𝓤) (A : Atoms 𝓤) (c : Clauses 𝓤 T) where
     abbrev pub Walks : Fun 𝓤 → Type 1
-    Walks run = (κs : Lfts (S .lifetimes)) (qs : Shares (S .lifetimes)) (bounds : AllOutlive (S .lifetimes) (S .outlives) κs) (a : Args S κs)
-        (g : c κs a .ghost) → Known κs qs a → Walk κs qs a bounds 𝓤 H A c g run
+    Walks run = (κs : Lfts (S .lifetimes)) (qs : Shares (S .lifetimes)) (bounds : AllOutlive (S .lifetimes) (S .outlives) κs)
+        (a : Args S κs) (g : c κs a .ghost) → Known κs qs a → Walk κs qs a bounds 𝓤 H A c g run
 
-    walk-meets-all : Given 𝓤 H A → (run : Fun 𝓤) → ((vs : List Val) → Mono 𝓤 (run vs)) → Walks run → Meets 𝓤 H A S run (closing 𝓤 H A T c)
+    walk-meets-all : Given 𝓤 H A → (run : Fun 𝓤) → ((vs : List Val) → Mono 𝓤 (run vs)) → Walks run
+        → Meets 𝓤 H A S run (closing 𝓤 H A T c)
     walk-meets-all W run mono k =
         walk-meets 𝓤 H A T staysOf W (all-go 𝓤 H A W (S .params) (T .kept) ps) c run mono
-        (walked 𝓤 H A T staysOf c run (λ κs. spells κs (S .params) (T .kept) ps) (λ κs. all-tell κs (S .params) (T .kept) ps) (λ κs qs bounds a g known.
+        (walked 𝓤 H A T staysOf c run (λ κs. spells κs (S .params) (T .kept) ps) (λ κs. all-tell κs (S .params) (T .kept) ps)
+        (λ κs qs bounds a g known.
         let P : SProp 𝓤 = onEntry 𝓤 H A S κs qs a (valsOf κs qs a) in
         let Owned : SProp 𝓤 = sem 𝓤 H A (owns (typesAt (S .params) κs) a (valsOf κs qs a)) in
         via 𝓤 P (fst∗ 𝓤 P (c κs a .requires g)) (via 𝓤 (⋆ 𝓤 H A (entries κs qs a))
-        (tokens-out 𝓤 H A (S .lifetimes) κs qs Owned (owneds (typesAt (S .params) κs) a (valsOf κs qs a)) (owneds-out 𝓤 H A (typesAt (S .params) κs) a (valsOf κs qs a)))
+        (tokens-out 𝓤 H A (S .lifetimes) κs qs Owned (owneds (typesAt (S .params) κs) a (valsOf κs qs a))
+        (owneds-out 𝓤 H A (typesAt (S .params) κs) a (valsOf κs qs a)))
         (k κs qs bounds a g known))))
 
   -- the walk is over the tables of the function's environment γ
-  pub walk-spec : {M : Type 1} (𝓤 : URA M) (H : Heap 𝓤) (𝓜 : Model 𝓤 H) (𝓖 : GhostRules 𝓤 H) (𝓡 : Running 𝓤 H 𝓜) (c : Clauses 𝓤 T) (γ : Env) (k : Name) (e : Fn)
+  pub walk-spec : {M : Type 1} (𝓤 : URA M) (H : Heap 𝓤) (𝓜 : Model 𝓤 H) (𝓖 : GhostRules 𝓤 H) (𝓡 : Running 𝓤 H 𝓜)
+      (c : Clauses 𝓤 T) (γ : Env) (k : Name) (e : Fn)
       → Closed 𝓤 H (tables 𝓤 H 𝓜 𝓡 γ .C) (tables 𝓤 H 𝓜 𝓡 γ .Λ) k e
       → Walks 𝓤 H (𝓖 .A) c (WpFn 𝓤 H (tablesOf 𝓤 H 𝓜 (tables 𝓤 H 𝓜 𝓡 γ) .C) (tablesOf 𝓤 H 𝓜 (tables 𝓤 H 𝓜 𝓡 γ) .Λ) e)
       → Meets 𝓤 H (𝓖 .A) S (𝓡 .run (γ k)) (closing 𝓤 H (𝓖 .A) T c)
   unfolding tablesOf
   walk-spec 𝓤 H 𝓜 𝓖 𝓡 c γ k e closed walk =
       entered 𝓤 H (tripleOf 𝓤 H (𝓖 .A) S (closing 𝓤 H (𝓖 .A) T c)) (tables 𝓤 H 𝓜 𝓡 γ .C) (tables 𝓤 H 𝓜 𝓡 γ .Λ) k e closed
-      (walk-meets-all 𝓤 H (𝓖 .A) c (givenOf 𝓤 H 𝓜 𝓖) _ (WpFn-mono 𝓤 H (givenOf 𝓤 H 𝓜 𝓖 .laws) (tablesOf 𝓤 H 𝓜 (tables 𝓤 H 𝓜 𝓡 γ)) e) walk)
+      (walk-meets-all 𝓤 H (𝓖 .A) c (givenOf 𝓤 H 𝓜 𝓖) _
+      (WpFn-mono 𝓤 H (givenOf 𝓤 H 𝓜 𝓖 .laws) (tablesOf 𝓤 H 𝓜 (tables 𝓤 H 𝓜 𝓡 γ)) e) walk)
