@@ -59,7 +59,7 @@ answer event team = Taken (record { event = event; team = team })
 
 -- opens every definition of the rules, so that a case computes
 opened : ℕ
-unfolding bytes verdict startOn run answer Choice.firstFailing Choice.allBelow Below.below Below.atNode Table.wordAt Table.edition Table.procedureWord Table.unpacked Table.decode Table.variables Table.procedures Table.nodes Table.flagged Table.body Table.effectFlag Table.nodeAt Table.mainBody Table.expressionOf Table.statementOf Table.expressionAt Table.statementAt WellFormed.headerFits WellFormed.procedureFits WellFormed.isExpression WellFormed.isStatement WellFormed.kindKnown WellFormed.namedFields WellFormed.unnamedZero WellFormed.expressionPart WellFormed.statementPart WellFormed.expressionFits WellFormed.statementFits WellFormed.nodeFits WellFormed.expressionParts WellFormed.statementParts WellFormed.partsAt WellFormed.joined WellFormed.uses WellFormed.occurrences WellFormed.usedOnce WellFormed.someOf WellFormed.anywhere WellFormed.calledBelow WellFormed.openParts WellFormed.loopAround WellFormed.nearestLoop WellFormed.leaveEnclosed WellFormed.wellBuilt WellFormed.wellFormed Judgement.singleOf Judgement.single Judgement.bothFixed Judgement.fixingOf Judgement.fixing Judgement.neverTaken Judgement.deadIn Judgement.live Judgement.counted Judgement.effectOf Judgement.effect Judgement.holdsLeave Judgement.localIf Judgement.leftLocally Acceptance.ruleOf Acceptance.bodyFlagged Acceptance.judgedBy Acceptance.checked Acceptance.checkedScratch Evaluation.applied Evaluation.valueOf Evaluation.value Process.processAt Process.withProcess Process.eachProcess Process.depth Process.top Process.popped Process.replaced Process.pushed Process.unwound Process.advanced Process.needsPlace Arrivals.statusAt Arrivals.arrivalNode Arrivals.arrivalValue Arrivals.arrivalSource Arrivals.withArrival Arrivals.eachArrival Arrivals.teamStatus Arrivals.allAtOneNode Collective.arrivalOf Collective.gatheredFrom Collective.received Collective.completedState Collective.releasedRoll Start.startSize Start.startVerdict Start.startWords Start.startProcess Start.startState Start.startRoll Start.startedBy Start.started Start.latchesOf Step.processesIn Step.stackFits Step.fieldsZero Step.lackedZero Step.waitFits Step.leaveFits Step.recordFits Step.processFits Step.placeLacked Step.teamVerdict Step.stepVerdict Step.moved Step.completed Step.arrivedAt Step.stepRunning Step.stepTaken Step.steppedBy Step.stepped Run.afterTurns Run.answers Run.collectives Scheduling.passedOver Scheduling.nextProcess Scheduling.serving Scheduling.servedBy Scheduling.served Scheduling.chosen Scheduling.chosenBy Scheduling.chosenIn
+unfolding bytes verdict startOn run answer Choice.firstFailing Choice.allBelow Below.below Below.atNode Table.wordAt Table.edition Table.procedureWord Table.unpacked Table.decode Table.variables Table.procedures Table.nodes Table.flagged Table.body Table.effectFlag Table.nodeAt Table.mainBody Table.expressionOf Table.statementOf Table.expressionAt Table.statementAt WellFormed.headerFits WellFormed.procedureFits WellFormed.isExpression WellFormed.isStatement WellFormed.kindKnown WellFormed.namedFields WellFormed.unnamedZero WellFormed.expressionPart WellFormed.statementPart WellFormed.expressionFits WellFormed.statementFits WellFormed.nodeFits WellFormed.expressionParts WellFormed.statementParts WellFormed.partsAt WellFormed.joined WellFormed.uses WellFormed.occurrences WellFormed.usedOnce WellFormed.someOf WellFormed.anywhere WellFormed.calledBelow WellFormed.openParts WellFormed.loopAround WellFormed.nearestLoop WellFormed.leaveEnclosed WellFormed.wellBuilt WellFormed.wellFormed Judgement.singleOf Judgement.single Judgement.bothFixed Judgement.fixingOf Judgement.fixing Judgement.neverTaken Judgement.deadIn Judgement.live Judgement.counted Judgement.effectOf Judgement.effect Judgement.holdsLeave Judgement.localIf Judgement.leftLocally Acceptance.ruleOf Acceptance.bodyFlagged Acceptance.judgedBy Acceptance.checked Acceptance.checkedScratch Evaluation.applied Evaluation.valueOf Evaluation.value Process.processAt Process.withProcess Process.eachProcess Process.unwound Process.advanced Process.needsPlace Arrivals.withArrival Arrivals.eachArrival Arrivals.teamStatus Arrivals.allAtOneNode Collective.arrivalOf Collective.gatheredFrom Collective.received Collective.completedState Collective.releasedRoll Start.startSize Start.startVerdict Start.startWords Start.startProcess Start.startState Start.startRoll Start.startedBy Start.started Start.latchesOf Step.processesIn Step.stackFits Step.fieldsZero Step.lackedZero Step.waitFits Step.leaveFits Step.recordFits Step.processFits Step.placeLacked Step.teamVerdict Step.stepVerdict Step.moved Step.completed Step.arrivedAt Step.stepRunning Step.stepTaken Step.steppedBy Step.stepped Run.afterTurns Run.answers Run.collectives Scheduling.passedOver Scheduling.nextProcess Scheduling.serving Scheduling.servedBy Scheduling.served Scheduling.chosen Scheduling.chosenBy Scheduling.chosenIn
 opened = 0
 
 -- T1: if own number then barrier else nothing

@@ -19,8 +19,9 @@ use Rattle.rules.proofs.ChoiceLaws.{bool-cases}
 use Rattle.rules.specs.Start.{question18, question19, question20, startVerdict, startRoll, startedBy, started}
 use Rattle.rules.specs.Step.{Outcome, processesIn, question22, question23, question24, teamVerdict, stepVerdict, moved, completed, arrivedAt, stepRunning, stepTaken, steppedBy, stepped}
 use Rattle.rules.specs.Table.{Program, decode}
-use Rattle.rules.specs.Table.{Collective, Statement, nothing, assign, sequence, branch, loop, call, latch, collective, leave, statementAt, onCollective}
+use Rattle.rules.specs.Table.{Collective, statementAt}
 use Rattle.rules.specs.WellFormed.{wellFormed}
+use Rattle.rules.proofs.TurnCases.{on-collective}
 use Rattle.team.proofs.Recorded.{Recorded, recorded-with, recorded-each, long-21, then-refused, Call}
 
 -- ---- a start
@@ -72,17 +73,6 @@ module _ (n : ℕ) where
   abbrev Keeps : Outcome → Type 0
   Keeps o = Recorded n (o .roll)
 
-  on-collective : (s : Statement) (meet : Collective → Outcome) (other : Outcome) → ((k : Collective) → Keeps (meet k)) → Keeps other → Keeps (onCollective s meet other)
-  on-collective nothing meet other h k = k
-  on-collective (assign a b) meet other h k = k
-  on-collective (sequence a b) meet other h k = k
-  on-collective (branch a b c) meet other h k = k
-  on-collective (loop a b) meet other h k = k
-  on-collective (call q) meet other h k = k
-  on-collective (latch a b) meet other h k = k
-  on-collective (collective m) meet other h k = h m
-  on-collective leave meet other h k = k
-
   moved-recorded : (state roll : List ℕ) (count p : ℕ) (words : List ℕ) → Recorded n roll → Keeps (moved state roll count p words)
   unfolding moved
   moved-recorded state roll count p words h =
@@ -100,9 +90,9 @@ module _ (n : ℕ) where
   running-recorded program state roll count p h =
       let words : List ℕ = processAt state p in
       let env : Environment = environment words p count in
-      on-collective (statementAt program (top words)) (λ meeting. arrivedAt state (withArrival roll p (arrivalOf program env (top words) meeting)) count (top words) meeting)
+      on-collective Keeps (statementAt program (top words)) (λ meeting. arrivedAt state (withArrival roll p (arrivalOf program env (top words) meeting)) count (top words) meeting)
       (moved state roll count p (advanced program env words (statementAt program (top words))))
-      (λ meeting. arrived-recorded state (withArrival roll p (arrivalOf program env (top words) meeting)) count (top words) meeting (recorded-with n roll p (arrivalOf program env (top words) meeting) h))
+      (λ meeting is. arrived-recorded state (withArrival roll p (arrivalOf program env (top words) meeting)) count (top words) meeting (recorded-with n roll p (arrivalOf program env (top words) meeting) h))
       (moved-recorded state roll count p (advanced program env words (statementAt program (top words))) h)
 
   taken-recorded : (program : Program) (state roll : List ℕ) (count p : ℕ) → Recorded n roll → Keeps (stepTaken program state roll count p)
