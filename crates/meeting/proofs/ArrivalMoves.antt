@@ -1,10 +1,10 @@
--- The status of a record in the roll, and the end of one that runs.
+-- The moves of a record whose status is known.
 use mathlib.Core.List.{List}
 use mathlib.Core.Path.{_≡_}
 use Prim.Native.Nat.{ℕ}
 use Rattle.rules.specs.declared.Arrival.{Arrival}
 use Rattle.rules.specs.declared.Status.the-variants.{Running, Waiting}
-use Rattle.rules.specs.Arrivals.{running, waiting, statusAt, endedRecord, end}
+use Rattle.rules.specs.Arrivals.{running, waiting, statusAt, runningRecord, endedRecord, waitingRecord, arrive, resume, end}
 use Rattle.meeting.specs.Meeting.{arrivalAt}
 
 module _ (roll : List ℕ) (p : ℕ) where
@@ -16,5 +16,15 @@ module _ (roll : List ℕ) (p : ℕ) where
   unfolding arrivalAt
   waiting-at e = rw e
 
-pub end-running : (r : Arrival) → r .status ≡ Running → end r ≡ endedRecord
-end-running r e = rw e
+module _ (r : Arrival) where
+  pub arrive-running : (n v s : ℕ) → r .status ≡ Running → arrive r n v s ≡ waitingRecord n v s
+  arrive-running n v s e = rw e
+
+  pub resume-waiting : r .status ≡ Waiting → resume r ≡ runningRecord
+  resume-waiting e = rw e
+
+  pub end-waiting : r .status ≡ Waiting → end r ≡ endedRecord
+  end-waiting e = rw e
+
+  pub end-running : r .status ≡ Running → end r ≡ endedRecord
+  end-running e = rw e

@@ -21,7 +21,14 @@ source-of-requires c κs = search needs
 
 returns : tie.Need-returns
 unfolding arrivalAt
-returns c = cc
+returns c =
+    simp (
+      c .before .before .before .status-of .ensures,
+      c .before .before .before .before .status-at .ensures,
+      c .before .before .node-of .ensures,
+      c .before .value-of .ensures,
+      c .source-of .ensures,
+    )
 
 pub read-spec : {M : Type 1} → statement M
 read-spec =

@@ -1,8 +1,10 @@
 -- `meeting::collective::arrival_of` meets its contract.
 use Rattle.meeting.proofs.CollectiveLaws.{is-barrier, is-broadcast, is-exchange, broadcast-fits, exchange-fits}
 use Rattle.process.proofs.AloneLaws.{collective-range}
+use Rattle.meeting.proofs.ArrivalMoves.{arrive-running}
 use Rattle.rules.specs.Collective.{arrivalOf}
 use native.Mathlib.Omega.{arith}
+use mathlib.Core.Path.{_∙_}
 use borrow.Author.Needs.{needs}
 use Rattle.meeting.proofs.collective.arrival_of.Statement.{statement}
 use Rattle.meeting.proofs.collective.arrival_of.Tie as tie
@@ -16,9 +18,9 @@ arrive-requires c κs = search needs
 returns : tie.Need-returns
 unfolding arrivalOf
 returns c =
-    let start = c .before .before .before .before .before in
-    let arrived = rw (start .pre .2) at (c .arrive .ensures) in
-    rw (is-barrier (start .args .node) (c .before .if1 .taken)) (cc)
+    let args = c .before .before .before .before .before .args in
+    rw (is-barrier (args .node) (c .before .if1 .taken), ← c .before .before .top .ensures)
+    (c .arrive .ensures ∙ arrive-running (args .arrival) _ _ _ (c .before .before .before .before .before .pre .2))
 
 cast-value-at : tie.Need-cast-value-at
 cast-value-at c = search needs
@@ -34,9 +36,12 @@ arrive-requires-2 c κs = search needs
 returns-2 : tie.Need-returns-2
 unfolding arrivalOf
 returns-2 c =
-    let start = c .before .before .before .before .before .before .before .before in
-    let arrived = rw (start .pre .2) at (c .arrive2 .ensures) in
-    rw (is-exchange (start .args .node) (c .before .before .before .if2 .taken)) (cc)
+    let past = c .before .before .before .before .before in
+    let top = past .top in
+    let args = past .before .before .before .args in
+    let given = past .before .before .before .pre in
+    rw (is-exchange (args .node) (c .before .before .before .if2 .taken), ← top .ensures, ← c .before .value-at .ensures)
+    (c .arrive2 .ensures ∙ arrive-running (args .arrival) _ _ _ (given .2))
 
 cast-value-at-2 : tie.Need-cast-value-at-2
 cast-value-at-2 c = search needs
@@ -64,10 +69,18 @@ arrive-requires-3 c κs = search needs
 returns-3 : tie.Need-returns-3
 unfolding arrivalOf
 returns-3 c =
-    let start = c .before .before .before .before .before .before .before .before .before .before in
-    let arrived = rw (start .pre .2) at (c .arrive3 .ensures) in
-    let range = collective-range (start .args .node .kind) (start .pre .1) in
-    rw (is-broadcast (start .args .node) (omega arith)) (cc)
+    let past = c .before .before .before .before .before .before .before in
+    let top = past .top in
+    let args = past .before .before .before .args in
+    let given = past .before .before .before .pre in
+    let range = collective-range (args .node .kind) (given .1) in
+    rw (
+      is-broadcast (args .node) (omega arith),
+      ← top .ensures,
+      ← c .before .before .before .value-at2 .ensures,
+      ← c .before .value-at3 .ensures,
+    )
+    (c .arrive3 .ensures ∙ arrive-running (args .arrival) _ _ _ (given .2))
 
 pub arrival-of-spec : {M : Type 1} → statement M
 arrival-of-spec =

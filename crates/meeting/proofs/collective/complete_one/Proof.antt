@@ -22,7 +22,8 @@ same-length : tie.Need-same-length
 same-length c = search needs
 
 returns : tie.Need-returns
-returns c = cc
+returns c =
+    rw (← c .before .before .before .before .before .before .receive .ensures) (c .before .before .pop .ensures)
 
 pub complete-one-spec : {M : Type 1} → statement M
 complete-one-spec = tie.close (tie.spec receive-requires pop-requires same-length returns)

@@ -51,7 +51,11 @@ returns-2 : tie.Need-returns-2
 unfolding received
 returns-2 c =
     let args = c .before .before .before .before .before .before .before .args in
-    rw (is-broadcast (args .node) (c .before .before .before .if2 .taken)) (cc)
+    rw (
+      is-broadcast (args .node) (c .before .before .before .if2 .taken),
+      c .sent-by .ensures,
+      c .before .before .source-of .ensures,
+    )
 
 returns-3 : tie.Need-returns-3
 unfolding received

@@ -25,7 +25,7 @@ same-length c = c .before .before .pop .kept .0 ∙ simp length-set
 
 returns : tie.Need-returns
 unfolding advanced
-returns c = cc
+returns c = rw (← c .before .before .before .before .value-at .ensures) (c .before .before .pop .ensures)
 
 pub assign-spec : {M : Type 1} → statement M
 assign-spec =

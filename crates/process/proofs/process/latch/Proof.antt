@@ -26,7 +26,12 @@ same-length c = search needs
 
 returns : tie.Need-returns
 unfolding advanced
-returns c = cc
+returns c =
+    let past = c .before .before .before .before .before .before in
+    let write-latch = past .write-latch in
+    let value-at2 = past .before .before .value-at2 in
+    let value-at = past .before .before .before .before .value-at in
+    rw (← value-at .ensures, ← value-at2 .ensures, ← write-latch .ensures) (c .before .before .pop .ensures)
 
 pub latch-spec : {M : Type 1} → statement M
 latch-spec =

@@ -29,7 +29,9 @@ same-length : tie.Need-same-length
 same-length c = search needs
 
 returns : tie.Need-returns
-returns c = cc
+returns c =
+    let past = c .before .before .before .before in
+    rw (← past .before .top .ensures, ← past .nearest-loop .ensures) (c .before .before .unwind .ensures)
 
 pub leave-spec : {M : Type 1} → statement M
 leave-spec =

@@ -23,7 +23,8 @@ same-length : tie.Need-same-length
 same-length c = search needs
 
 returns : tie.Need-returns
-returns c = cc
+returns c =
+    rw (← c .before .before .before .before .before .before .replace .ensures) (c .before .before .push .ensures)
 
 pub sequence-spec : {M : Type 1} → statement M
 sequence-spec = tie.close (tie.spec replace-requires push-requires same-length returns)
