@@ -166,6 +166,36 @@ expressionAt program n = expressionOf (nodeAt program n)
 unfoldable pub statementAt : Program → ℕ → Statement
 statementAt program n = statementOf (nodeAt program n)
 
+-- what a field stands for: a variable, a procedure, a gathered area, or a part of the sort named
+pub data Operand : Type 0 where
+  variableOperand procedureOperand areaOperand expressionOperand statementOperand : ℕ → Operand
+
+-- the fields that a node names, in the order A, B, C: the first so many. A constant has a value in B and C and no operand.
+abbrev pub expressionOperands : Expression → List Operand
+expressionOperands (constant v) = []
+expressionOperands (variable a) = variableOperand a ∷ []
+expressionOperands ownNumber = []
+expressionOperands processCount = []
+expressionOperands (door a) = expressionOperand a ∷ []
+expressionOperands (slot a r) = expressionOperand a ∷ areaOperand r ∷ []
+expressionOperands (operation o a b) = expressionOperand a ∷ expressionOperand b ∷ []
+
+abbrev pub collectiveOperands : Collective → List Operand
+collectiveOperands barrier = []
+collectiveOperands (broadcast a b c) = variableOperand a ∷ expressionOperand b ∷ expressionOperand c ∷ []
+collectiveOperands (exchange a r) = expressionOperand a ∷ areaOperand r ∷ []
+
+abbrev pub statementOperands : Statement → List Operand
+statementOperands nothing = []
+statementOperands (assign a b) = variableOperand a ∷ expressionOperand b ∷ []
+statementOperands (sequence a b) = statementOperand a ∷ statementOperand b ∷ []
+statementOperands (branch a b c) = expressionOperand a ∷ statementOperand b ∷ statementOperand c ∷ []
+statementOperands (loop a b) = expressionOperand a ∷ statementOperand b ∷ []
+statementOperands (call p) = procedureOperand p ∷ []
+statementOperands (latch a b) = expressionOperand a ∷ expressionOperand b ∷ []
+statementOperands (collective k) = collectiveOperands k
+statementOperands leave = []
+
 -- what is said of a collective, and of any other statement
 abbrev pub onCollective : {A : Type 0} → Statement → (Collective → A) → A → A
 onCollective nothing meet other = other
@@ -178,7 +208,7 @@ onCollective (latch a b) meet other = other
 onCollective (collective k) meet other = meet k
 onCollective leave meet other = other
 
--- what is said of an if, of a while and of a call, and of any other statement
+-- the same of an if, of a while and of a call
 abbrev pub onBranch : {A : Type 0} → Statement → (ℕ → ℕ → ℕ → A) → A → A
 onBranch nothing choose other = other
 onBranch (assign a b) choose other = other
@@ -223,33 +253,3 @@ isLeave (call p) = false
 isLeave (latch a b) = false
 isLeave (collective k) = false
 isLeave leave = true
-
--- what a field stands for: a variable, a procedure, a gathered area, or a part of the sort named
-pub data Operand : Type 0 where
-  variableOperand procedureOperand areaOperand expressionOperand statementOperand : ℕ → Operand
-
--- the fields that a node names, in the order A, B, C: the first so many. A constant has a value in B and C and no operand.
-abbrev pub expressionOperands : Expression → List Operand
-expressionOperands (constant v) = []
-expressionOperands (variable a) = variableOperand a ∷ []
-expressionOperands ownNumber = []
-expressionOperands processCount = []
-expressionOperands (door a) = expressionOperand a ∷ []
-expressionOperands (slot a r) = expressionOperand a ∷ areaOperand r ∷ []
-expressionOperands (operation o a b) = expressionOperand a ∷ expressionOperand b ∷ []
-
-abbrev pub collectiveOperands : Collective → List Operand
-collectiveOperands barrier = []
-collectiveOperands (broadcast a b c) = variableOperand a ∷ expressionOperand b ∷ expressionOperand c ∷ []
-collectiveOperands (exchange a r) = expressionOperand a ∷ areaOperand r ∷ []
-
-abbrev pub statementOperands : Statement → List Operand
-statementOperands nothing = []
-statementOperands (assign a b) = variableOperand a ∷ expressionOperand b ∷ []
-statementOperands (sequence a b) = statementOperand a ∷ statementOperand b ∷ []
-statementOperands (branch a b c) = expressionOperand a ∷ statementOperand b ∷ statementOperand c ∷ []
-statementOperands (loop a b) = expressionOperand a ∷ statementOperand b ∷ []
-statementOperands (call p) = procedureOperand p ∷ []
-statementOperands (latch a b) = expressionOperand a ∷ expressionOperand b ∷ []
-statementOperands (collective k) = collectiveOperands k
-statementOperands leave = []
