@@ -49,6 +49,7 @@ decode table =
       node = λ n. unpacked (wordAt table (2 + procedures + n));
     }
 
+-- its parts, each under a name that laws can rewrite
 unfoldable pub variables : Program → ℕ
 variables program = program .variables
 
