@@ -15,11 +15,11 @@ use Rattle.rules.specs.Process.{processAt, withProcess, environment, depth, top
 use Rattle.rules.specs.Step.{moved, completed, arrivedAt, stepRunning, stepTaken}
 use Rattle.rules.specs.Table.{Program, Statement, Collective, nodeAt, statementAt, statementOf, onCollective}
 use Rattle.rules.proofs.KindLaws.{statement-here}
-use Rattle.meeting.specs.Meeting.{collectiveOf}
+use Rattle.collectives.specs.Given.{collectiveOf}
 use Rattle.machine.specs.Outcomes.{Gives}
 use Rattle.process.specs.Given.{isCollective}
 use Rattle.process.proofs.AloneLaws.{alone-statement}
-use Rattle.meeting.proofs.CollectiveLaws.{collective-of}
+use Rattle.collectives.proofs.CollectiveLaws.{collective-of}
 
 module _ (state roll : List ℕ) (count p : ℕ) (words : List ℕ) where
   pub moved-on : {after : List ℕ} → after ≡ withProcess state p words → (depth words ≡ 0 → ⊥)

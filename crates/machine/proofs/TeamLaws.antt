@@ -17,9 +17,9 @@ use Rattle.rules.proofs.ArrivalLaws.{with-arrival-length, with-arrival-other}
 use Rattle.rules.proofs.StatusLaws.{one-node-waits}
 use Rattle.table.specs.declared.Header.{Header}
 use Rattle.process.specs.Given.{Stacked, isCollective, Topped, Turn}
-use Rattle.meeting.specs.Meeting.{Meeting}
-use Rattle.meeting.proofs.CollectiveLaws.{broadcast-fits, exchange-fits}
-use Rattle.questions.proofs.FittingLaws.{fits-stacked, run-stacked, run-statement, run-topped}
+use Rattle.collectives.specs.Given.{AtCollective}
+use Rattle.collectives.proofs.CollectiveLaws.{broadcast-fits, exchange-fits}
+use Rattle.preconditions.proofs.FittingLaws.{fits-stacked, run-stacked, run-statement, run-topped}
 use Rattle.machine.specs.Outcomes.{Ready}
 
 module _ {table : List ℕ} {header : Header} {state roll : List ℕ} {count p : ℕ} (r : Ready table header state roll count p)
@@ -68,7 +68,7 @@ module _ {table : List ℕ} {header : Header} {state roll : List ℕ} {count p :
         ]
 
     pub meeting-of : {m : Node} → m ≡ nodeAt (decode table) (top (processAt state p)) → isCollective (m .kind) ≡ true
-        → Meeting (withArrival roll p arrival) count m
+        → AtCollective (withArrival roll p arrival) count m
     meeting-of e h =
         record {
           rolled = with-arrival-length roll p arrival ∙ r .team .rolled;

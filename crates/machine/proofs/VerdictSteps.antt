@@ -23,7 +23,7 @@ use Rattle.rules.proofs.AnswerLaws.{both-left, both-right, then-first, then-res
 use Rattle.table.specs.declared.Header.{Header}
 use Rattle.table.specs.Header.{headerOf, Passing}
 use Rattle.machine.specs.Layout.{Startable, Starts}
-use Rattle.questions.specs.Asked.{Team}
+use Rattle.preconditions.specs.Asked.{GivenTeam}
 use Rattle.machine.specs.Outcomes.{Asked, Ready, Gives}
 use Rattle.rules.specs.Table.{Program, decode}
 
@@ -68,7 +68,7 @@ module _ (table state roll : List ℕ) (p : ℕ) where
       question-21 : (eqb (length roll) (arrivalSize * processesIn roll) && leb 1 (processesIn roll) && leb (processesIn roll) mostProcesses) ≡ true
       question-21 = ask-holds 21 _ (then-first (question21 (processesIn roll) roll) (question20 (processesIn roll) state) sized)
 
-      pub team-of : {header : Header} → Passing wellFormed table header → Team table header state roll (processesIn roll)
+      pub team-of : {header : Header} → Passing wellFormed table header → GivenTeam table header state roll (processesIn roll)
       team-of r =
           let n = processesIn roll in
           let front = both-left (eqb (length roll) (arrivalSize * n) && leb 1 n) (leb n mostProcesses) question-21 in

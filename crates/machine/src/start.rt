@@ -9,7 +9,7 @@ ghost use Rattle.rules.specs.Process.{variablePlaces, processWords};
 ghost use Rattle.rules.specs.Start.{startState, startRoll};
 ghost use Rattle.machine.specs.Layout.{laidWord, Startable};
 ghost use Rattle.rules.specs.Table.{decode};
-use meeting::arrivals::write;
+use collectives::arrivals::write;
 use rules::Arrival;
 use rules::Status;
 use rules::layout::DEPTH_AT;

@@ -9,21 +9,21 @@ ghost use Rattle.rules.specs.Process.{processWords, processAt, withProcess, env
 ghost use Rattle.rules.specs.Step.{moved, arrivedAt, stepRunning, stepTaken};
 ghost use Rattle.rules.specs.Table.{decode, statementAt};
 ghost use Rattle.process.specs.Given.{isCollective, Turn, Topped};
-ghost use Rattle.meeting.specs.Meeting.{collectiveOf};
-ghost use Rattle.questions.specs.Asked.{Team};
+ghost use Rattle.collectives.specs.Given.{collectiveOf};
+ghost use Rattle.preconditions.specs.Asked.{GivenTeam};
 ghost use Rattle.machine.specs.Outcomes.{Ready, Gives};
-use meeting::arrivals::all_at_one_node;
-use meeting::arrivals::read;
-use meeting::arrivals::status_at;
-use meeting::arrivals::team_status;
-use meeting::arrivals::write;
-use meeting::collective::arrival_of;
-use meeting::collective::complete;
-use meeting::collective::release;
-use process::process::advance;
-use process::process::is_collective;
-use process::process::process_at;
-use process::process::top;
+use collectives::arrivals::all_at_one_node;
+use collectives::arrivals::read;
+use collectives::arrivals::status_at;
+use collectives::arrivals::team_status;
+use collectives::arrivals::write;
+use collectives::completion::arrival_of;
+use collectives::completion::complete;
+use collectives::completion::release;
+use process::stack::process_at;
+use process::stack::top;
+use process::step::advance;
+use process::step::is_collective;
 use rules::Answer;
 use rules::Event;
 use rules::Node;
@@ -55,7 +55,7 @@ fn move_on(
     p: usize,
     node: Node,
 ) -> Stepped
-    requires { ⌜ Team (now table) header (now state) (now roll) count × (p < count) × (statusAt (now roll) p ≡ running)
+    requires { ⌜ GivenTeam (now table) header (now state) (now roll) count × (p < count) × (statusAt (now roll) p ≡ running)
         × Turn (now table) header (processAt (now state) p) p count node ⌝ }
     ensures { λ r. ⌜ Gives
         (moved (now (state .entry)) (now (roll .entry)) count p
@@ -89,7 +89,7 @@ fn arrive_in(
     p: usize,
     node: Node,
 )
-    requires { ⌜ Team (now table) header (now state) (now roll) count × (p < count) × (statusAt (now roll) p ≡ running)
+    requires { ⌜ GivenTeam (now table) header (now state) (now roll) count × (p < count) × (statusAt (now roll) p ≡ running)
         × Topped (now table) header (processAt (now state) p) count node × (isCollective (node .kind) ≡ true) ⌝ }
     ensures { λ _. ⌜ now (roll .exit) ≡ withArrival (now (roll .entry)) p
         (arrivalOf (decode (now (table .entry))) (environment (processAt (now (state .entry)) p) p count)

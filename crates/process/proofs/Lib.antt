@@ -1,7 +1,4 @@
 -- Laws that several proofs of this crate and of those above it use.
-pub mod NumberLaws
-pub mod ExpressionLaws
-pub mod FixingLaws
 pub mod StackedLaws
 pub mod UnwindLaws
 pub mod StatementLaws

@@ -16,8 +16,9 @@ use Rattle.rules.proofs.KindLaws.{sequence-of, loop-of, statement-here}
 use Rattle.rules.proofs.KindLaws.{assign-fields, branch-fields, loop-fields, call-field, latch-fields}
 use Rattle.table.specs.Header.{Passing}
 use Rattle.table.specs.declared.Header.{Header}
-use Rattle.process.specs.Given.{Given, Stacked, Part, Topped, Turn}
-use Rattle.process.proofs.ExpressionLaws.{part-lower}
+use Rattle.values.specs.Given.{Given, Part}
+use Rattle.process.specs.Given.{Stacked, Topped, Turn}
+use Rattle.values.proofs.ExpressionLaws.{part-lower}
 
 -- a node past the last is no statement
 pub statement-below : (program : Program) → Formed program → (n : ℕ) → isStatement program n ≡ true → n < nodes program

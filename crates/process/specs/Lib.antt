@@ -1,3 +1,2 @@
--- What the contracts of this crate cite besides the rules.
+-- What the contracts of this crate cite besides the rules and evaluation's.
 pub mod Given
-pub mod Fixed

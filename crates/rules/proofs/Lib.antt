@@ -29,9 +29,9 @@ pub mod SingleLaws
 pub mod ViewLaws
 pub mod ViewStep
 pub mod Standing
-pub mod MeetingView
+pub mod CompletionView
 pub mod Stands
-pub mod Meeting
+pub mod Completion
 pub mod TurnCases
 pub mod BufferedLaws
 pub mod ScratchLaws

@@ -51,7 +51,7 @@ fn take_turns(
     let count = turns.len();
     for i in 0..count {
         let bank = bank_of(turns[i]);
-        let after = team::step_on(table, state, records, processes, bank);
+        let after = records::step_on(table, state, records, processes, bank);
         records = after.roll;
         let stepped = after.answer;
         if !report_step(bank, stepped) {
@@ -76,7 +76,7 @@ fn run_lent(table: &[u8], processes: u32, given: &[u8], words: &mut [u32], state
         source: 0,
     };
     read_words(given, &mut words[..taken]);
-    let after = team::start_on(
+    let after = records::start_on(
         table,
         processes,
         &words[..taken],

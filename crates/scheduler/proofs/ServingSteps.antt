@@ -20,7 +20,7 @@ use Rattle.rules.proofs.ChoiceLaws.{first-none, all-passed}
 use Rattle.rules.proofs.ServingLaws.{next-runs, taken-worked}
 use Rattle.rules.proofs.VerdictLaws.{TeamSized, questions-left, team-22, processes-in}
 use Rattle.table.specs.declared.Header.{Header}
-use Rattle.questions.specs.Asked.{Team}
+use Rattle.preconditions.specs.Asked.{GivenTeam}
 use Rattle.machine.specs.Outcomes.{Asked, Ready, Gives}
 use Rattle.machine.proofs.VerdictSteps.{denied-team, denied-place, taken-step}
 use Rattle.scheduler.specs.Serving.{service, unfitIn, Fit, Makes, teamOf, Serves}
@@ -32,7 +32,7 @@ use Rattle.rules.specs.Table.{decode}
 pub record Between (table : List ℕ) (header : Header) (count turns : ℕ) (end : Served) (state roll : List ℕ) (made last unfit : ℕ)
     : Type 0 where
   pub within : made ≤ turns
-  pub team : Team table header state roll count
+  pub team : GivenTeam table header state roll count
   pub listed : last < count
   pub apart : allAtOneNode roll count ≡ false
   pub unfit-is : unfit ≡ unfitIn (decode table) state roll count
@@ -113,7 +113,7 @@ module _ {table : List ℕ} {header : Header} {count turns : ℕ} {end : Served}
         holds = team-22 table state roll count next sized fits (b .apart) ∙ rw (lt-ltb next count next-low)
 
         -- what question 24 is asked with
-        pub asked-place : Team table header state roll count × (next < count) × (processFits (decode table) state roll next ≡ true)
+        pub asked-place : GivenTeam table header state roll count × (next < count) × (processFits (decode table) state roll next ≡ true)
         asked-place = (b .team, next-low, fits next next-low)
 
         pub stops-24 : placeLacked (decode table) state roll count next ≡ true → Serves end (service made last (refused 24 next)) state roll

@@ -32,7 +32,7 @@ use Rattle.loops.specs.Upward.{hasLeave}
 use Rattle.loops.proofs.BuiltLaws.{no-leave-at}
 use Rattle.rules.proofs.Formed.{Formed, formed, statement-past}
 use Rattle.rules.proofs.HomeLaws.{stores-low}
-use Rattle.rules.proofs.Meeting.{released-is, released-apart}
+use Rattle.rules.proofs.Completion.{released-is, released-apart}
 use Rattle.rules.proofs.ProcessLaws.{process-length, with-process-length, with-process-same, with-process-other}
 use Rattle.rules.proofs.StackLaws.{entry, top-entry, advanced-length, received-length, received-depth, received-entry}
 use Rattle.rules.proofs.Standing.{Standing, runs as stands-running, waits, ends, arrival-brought, broughtRecord, standing-fits}
@@ -43,7 +43,7 @@ use Rattle.process.specs.Given.{Stacked}
 use Rattle.machine.specs.Outcomes.{Ready, Gives}
 use Rattle.machine.proofs.OutcomeLaws.{taken-run}
 use Rattle.machine.proofs.TeamLaws.{ready-stacked, ready-place}
-use Rattle.questions.proofs.FittingLaws.{bounded, stack-fit, record-fit}
+use Rattle.preconditions.proofs.FittingLaws.{bounded, stack-fit, record-fit}
 use Rattle.scheduler.specs.Serving.{unfitIn, Fit, MovedOn, LeftBy, Turned}
 
 -- question 23 of a process goes by its words and its record

@@ -11,13 +11,13 @@ ghost use Rattle.table.specs.Header.{Passing};
 ghost use Rattle.switches.specs.Aside.{innerParts, neverParts, asideMarks, Aside};
 ghost use Rattle.table.specs.Marks.{withBits};
 ghost use Rattle.visit.specs.Fields.{planeWords};
-use process::Fixed;
-use process::fixing::fixing;
 use table::Header;
 use table::marks::mark;
 use table::marks::marked;
 use table::words::kind_at;
 use table::words::node_at;
+use values::Fixed;
+use values::fixing::fixing;
 
 // Both of two statements.
 fn set_both(aside: &mut [u32], x: u32, y: u32)

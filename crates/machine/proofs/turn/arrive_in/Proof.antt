@@ -1,5 +1,5 @@
 -- `machine::turn::arrive_in` meets its contract.
-use Rattle.meeting.proofs.ArrivalMoves.{running-at}
+use Rattle.collectives.proofs.ArrivalMoves.{running-at}
 use Rattle.rules.specs.Arrivals.{withArrival}
 use mathlib.Core.Path.{_∙_, ap}
 use borrow.Author.Needs.{needs}

@@ -1,7 +1,7 @@
 -- `machine::turn::move_on` meets its contract.
 use Rattle.machine.proofs.OutcomeLaws.{moved-on, finished}
 use Rattle.process.proofs.LentLaws.{depth-with}
-use Rattle.meeting.proofs.ArrivalMoves.{running-at, end-running}
+use Rattle.collectives.proofs.ArrivalMoves.{running-at, end-running}
 use Rattle.rules.proofs.StackLaws.{advanced-length}
 use Rattle.rules.proofs.ProcessLaws.{process-length}
 use Rattle.rules.specs.Table.{decode, statementAt}

@@ -4,7 +4,7 @@ use mathlib.Core.Path.{sym, _∙_, ap}
 use Prim.Native.Nat.{ℕ}
 use native.Mathlib.Omega.{arith}
 use lib.Dec.{eqb}
-use Rattle.process.specs.Fixed.{fixedAs}
+use Rattle.values.specs.Fixed.{fixedAs}
 use Rattle.table.proofs.PassingLaws.{read-formed, readable, read-built}
 use Rattle.rules.specs.declared.Node.{Node}
 use Rattle.table.specs.Marks.{withBits}

@@ -1,8 +1,0 @@
--- What a `Fixed` says of an expression.
-use Rattle.rules.specs.Judgement.{Fixing, fixed, unfixed}
-use Rattle.process.specs.declared.Fixed.{Fixed}
-use Rattle.process.specs.declared.Fixed.the-variants.{Value, Nothing}
-
-abbrev pub fixedAs : Fixed → Fixing
-fixedAs (Value v) = fixed v
-fixedAs Nothing = unfixed
