@@ -10,6 +10,9 @@ ghost use Rattle.collectives.specs.Given.{statusOf, arrivalAt};
 use rules::Arrival;
 use rules::Status;
 use rules::TeamStatus;
+use rules::kinds::ENDED;
+use rules::kinds::RUNNING;
+use rules::kinds::WAITING;
 use rules::layout::ARRIVAL_WORDS;
 
 pub fn status_at(roll: &[u32], p: usize) -> u32
@@ -47,10 +50,10 @@ pub fn source_of(roll: &[u32], p: usize) -> u32
 fn status_of(word: u32) -> Status
     ensures { λ r. ⌜ r ≡ statusOf word ⌝ }
 {
-    if word == 0 {
+    if word == RUNNING {
         return Status::Running;
     }
-    if word == 1 {
+    if word == WAITING {
         Status::Waiting
     } else {
         Status::Ended
@@ -61,9 +64,9 @@ fn status_number(status: Status) -> u32
     ensures { λ r. ⌜ r ≡ statusNumber status ⌝ }
 {
     match status {
-        Status::Running => 0,
-        Status::Waiting => 1,
-        Status::Ended => 2,
+        Status::Running => RUNNING,
+        Status::Waiting => WAITING,
+        Status::Ended => ENDED,
     }
 }
 
@@ -100,7 +103,7 @@ fn none_runs(roll: &[u32], count: usize) -> bool
     let mut p = count;
     while 0 < p {
         p -= 1;
-        if status_at(roll, p) == 0 {
+        if status_at(roll, p) == RUNNING {
             return false;
         }
     }
@@ -113,7 +116,7 @@ fn all_ended(roll: &[u32], count: usize) -> bool
 {
     let mut p = 0;
     while p < count {
-        if status_at(roll, p) != 2 {
+        if status_at(roll, p) != ENDED {
             return false;
         }
         p += 1;
@@ -144,7 +147,7 @@ pub fn all_at_one_node(roll: &[u32], count: usize) -> bool
     let mut p = count;
     while 0 < p {
         p -= 1;
-        if status_at(roll, p) != 1 {
+        if status_at(roll, p) != WAITING {
             return false;
         }
         if node_of(roll, p) != node {

@@ -20,6 +20,9 @@ use process::stack::pop;
 use process::stack::top;
 use rules::Arrival;
 use rules::Node;
+use rules::kinds::BARRIER;
+use rules::kinds::BROADCAST;
+use rules::kinds::EXCHANGE;
 use rules::layout::DEPTH_AT;
 use rules::layout::PROCESS_WORDS;
 use rules::layout::slot_at;
@@ -42,10 +45,10 @@ pub fn arrival_of(
 {
     let n = top(words);
     let kind = node.kind;
-    if kind == 23 {
+    if kind == BARRIER {
         return arrival.arrive(n, 0, 0);
     }
-    if kind == 25 {
+    if kind == EXCHANGE {
         let value = value_at(table, header, words, own, count, node.a as usize);
         return arrival.arrive(n, value, 0);
     }
@@ -85,11 +88,11 @@ fn receive(words: &mut [u32], roll: &[u32], count: usize, node: Node, p: usize)
     ensures { λ _. ⌜ now (words .exit) ≡ received (now (roll .entry)) count (collectiveOf node) p (now (words .entry)) ⌝ }
 {
     let kind = node.kind;
-    if kind == 25 {
+    if kind == EXCHANGE {
         gather(words, roll, count, node.b as usize);
         return;
     }
-    if kind == 24 {
+    if kind == BROADCAST {
         let source = source_of(roll, p) as usize;
         let a = node.a as usize;
         words[a] = sent_by(roll, count, source);

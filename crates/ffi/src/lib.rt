@@ -2,10 +2,10 @@
 // asks for nothing of its caller: what it answers, and what every lent word then holds, are equations with the rules.
 ghost use mathlib.Core.Path.{_≡_};
 ghost use mathlib.Core.List.{_++_};
-ghost use Prim.Native.Nat.{_≤_, min};
+ghost use Prim.Native.Nat.{_≤_};
 ghost use lib.ListN.{length, take, drop};
 ghost use Rattle.rules.specs.Acceptance.{checked, checkedScratch};
-ghost use Rattle.rules.specs.Answers.{eventNumber, eventNode, teamNumber};
+ghost use Rattle.rules.specs.Answers.{eventNumber, teamNumber};
 ghost use Rattle.rules.specs.Scheduling.{served};
 ghost use Rattle.rules.specs.Start.{started, latchesOf};
 ghost use Rattle.rules.specs.Step.{stepped};
@@ -17,6 +17,7 @@ use rules::Event;
 use rules::Stepped;
 use rules::TeamStatus;
 use rules::Verdict;
+use rules::layout::lesser;
 use scheduler::Service;
 use scheduler::serve;
 
@@ -61,19 +62,6 @@ fn event_number(event: Event) -> u32
     }
 }
 
-fn event_node(event: Event) -> u32
-    ensures { λ r. ⌜ r ≡ eventNode event ⌝ }
-{
-    match event {
-        Event::Moved => 0,
-        Event::Finished => 0,
-        Event::Arrived(node) => node,
-        Event::Completed(node) => node,
-        Event::Waiting => 0,
-        Event::Ended => 0,
-    }
-}
-
 fn team_number(team: TeamStatus) -> u32
     ensures { λ r. ⌜ r ≡ teamNumber team ⌝ }
 {
@@ -95,7 +83,7 @@ fn step_numbers(stepped: Stepped) -> FcStep
                 number: 0,
                 place: 0,
                 event: event_number(event),
-                node: event_node(event),
+                node: event.node(),
                 site: team_number(team),
             }
         }
@@ -129,12 +117,6 @@ fn serve_numbers(service: Service) -> FcServe
             place: added.place,
         },
     }
-}
-
-fn lesser(a: usize, b: usize) -> usize
-    ensures { λ r. ⌜ r ≡ min a b ⌝ }
-{
-    if a < b { a } else { b }
 }
 
 fn copy_first(words: &[u32], out: &mut [u32], n: usize)

@@ -8,6 +8,10 @@ ghost use Rattle.rules.specs.WellFormed.{nearestLoop, wellBuilt};
 ghost use Rattle.table.specs.Header.{Passing};
 ghost use Rattle.loops.specs.Upward.{hasBody, hasPart, hasLeave};
 use rules::Node;
+use rules::kinds::BRANCH;
+use rules::kinds::LEAVE;
+use rules::kinds::LOOP;
+use rules::kinds::SEQUENCE;
 use table::Header;
 use table::words::kind_at;
 use table::words::node_at;
@@ -15,16 +19,16 @@ use table::words::node_at;
 fn has_body(node: Node, n: usize) -> bool
     ensures { λ r. ⌜ r ≡ hasBody node n ⌝ }
 {
-    node.kind == 20 && node.b as usize == n
+    node.kind == LOOP && node.b as usize == n
 }
 
 fn has_part(node: Node, n: usize) -> bool
     ensures { λ r. ⌜ r ≡ hasPart node n ⌝ }
 {
-    if node.kind == 18 {
+    if node.kind == SEQUENCE {
         return node.a as usize == n || node.b as usize == n;
     }
-    if node.kind == 19 {
+    if node.kind == BRANCH {
         return node.b as usize == n || node.c as usize == n;
     }
     false
@@ -65,7 +69,7 @@ pub fn has_leave(table: &[u8], header: Header) -> bool
     let nodes = header.nodes;
     let mut n = 0;
     while n < nodes {
-        if kind_at(table, header, n) == 26 {
+        if kind_at(table, header, n) == LEAVE {
             return true;
         }
         n += 1;

@@ -29,6 +29,8 @@ use rules::Event;
 use rules::Node;
 use rules::Stepped;
 use rules::TeamStatus;
+use rules::kinds::RUNNING;
+use rules::kinds::WAITING;
 use rules::layout::DEPTH_AT;
 use rules::layout::PROCESS_WORDS;
 use table::Header;
@@ -174,11 +176,11 @@ pub(crate) fn take_turn(
         r (now (state .exit)) (now (roll .exit)) ⌝ }
 {
     let status = status_at(roll, p);
-    if status == 0 {
+    if status == RUNNING {
         return run(table, header, state, roll, count, p);
     }
     let team = team_status(roll, count as usize);
-    if status == 1 {
+    if status == WAITING {
         return Stepped::Taken(Answer {
             event: Event::Waiting,
             team,

@@ -14,15 +14,10 @@ use Rattle.rules.specs.Arrivals.{statusAt}
 use Rattle.rules.specs.Evaluation.{Environment, doors}
 use Rattle.rules.specs.Process.{variablePlaces, mostProcesses, depthAt, stackAt, depth, top, needsPlace}
 use Rattle.rules.specs.Step.{stackFits, recordFits}
-use Rattle.rules.specs.Table.{Program, decode, nodes, unpacked, statementOf}
+use Rattle.rules.specs.Table.{Program, statementOf}
 use Rattle.rules.specs.WellFormed.{isStatement}
 use Rattle.rules.proofs.ChoiceLaws.{bool-cases, all-at}
-use Rattle.rules.proofs.Formed.{Formed}
 use Rattle.rules.proofs.KindLaws.{by-kind}
-
-pub statement-past : (table : List ℕ) → Formed (decode table) → (n : ℕ) → nodes (decode table) ≤ n → isStatement (decode table) n ≡ false
-unfolding isStatement unpacked
-statement-past table formed n l = rw (formed .past n l)
 
 -- the top of a stack that holds an entry is a statement
 pub top-fits : (program : Program) (words : List ℕ) → stackFits program words ≡ true → 1 ≤ depth words

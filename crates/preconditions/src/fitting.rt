@@ -22,31 +22,22 @@ use process::stack::process_at;
 use process::stack::top;
 use process::step::is_collective;
 use rules::Node;
+use rules::kinds::BROADCAST;
+use rules::kinds::ENDED;
+use rules::kinds::EXCHANGE;
+use rules::kinds::LEAVE;
+use rules::kinds::RUNNING;
+use rules::kinds::WAITING;
 use rules::layout::DEPTH_AT;
-use rules::layout::FIRST_STATEMENT;
-use rules::layout::LAST_STATEMENT;
 use rules::layout::STACK_AT;
 use rules::layout::STACK_PLACES;
 use table::Header;
+use table::fields::names_statement;
 use table::words::kind_at;
 use table::words::node_at;
 
 // The depth of a full stack, as a word holds it.
 pub(crate) const MOST_DEPTH: u32 = STACK_PLACES as u32;
-
-fn is_statement(table: &[u8], header: Header, n: usize) -> bool
-    requires { ⌜ Passing wellFormed (now table) header ⌝ }
-    ensures { λ r. ⌜ r ≡ isStatement (decode (now (table .entry))) n ⌝ }
-{
-    if n >= header.nodes {
-        return false;
-    }
-    let kind = node_at(table, header, n).kind;
-    if kind < FIRST_STATEMENT {
-        return false;
-    }
-    kind <= LAST_STATEMENT
-}
 
 // "each stack entry below depth a statement". Two entries a turn: with one, the turn itself is a third of the time.
 fn stack_fits(table: &[u8], header: Header, words: &[u32]) -> bool
@@ -59,10 +50,10 @@ fn stack_fits(table: &[u8], header: Header, words: &[u32]) -> bool
     let mut i = 0;
     while i < pairs {
         let at = STACK_AT + 2 * i;
-        if !is_statement(table, header, words[at] as usize) {
+        if !names_statement(table, header, words[at] as usize) {
             return false;
         }
-        if !is_statement(table, header, words[at + 1] as usize) {
+        if !names_statement(table, header, words[at + 1] as usize) {
             return false;
         }
         i += 1;
@@ -70,7 +61,7 @@ fn stack_fits(table: &[u8], header: Header, words: &[u32]) -> bool
     if depth % 2 == 0 {
         return true;
     }
-    is_statement(table, header, words[DEPTH_AT + depth] as usize)
+    names_statement(table, header, words[DEPTH_AT + depth] as usize)
 }
 
 fn fields_zero(roll: &[u32], p: usize) -> bool
@@ -95,10 +86,10 @@ fn lacked_zero(roll: &[u32], p: usize, node: Node) -> bool
     if !is_collective(kind) {
         return false;
     }
-    if kind == 24 {
+    if kind == BROADCAST {
         return true;
     }
-    if kind == 25 {
+    if kind == EXCHANGE {
         return source_of(roll, p) == 0;
     }
     if value_of(roll, p) != 0 {
@@ -143,7 +134,7 @@ pub fn leave_on_top(table: &[u8], header: Header, words: &[u32]) -> bool
     ensures { λ r. ⌜ r ≡ isLeave (statementAt (decode (now (table .entry))) (top (now (words .entry)))) ⌝ }
 {
     let n = top(words) as usize;
-    kind_at(table, header, n) == 26
+    kind_at(table, header, n) == LEAVE
 }
 
 // "A made-up stack with a leave on top and that while not below is number 23." Apart from the test above, which is short enough
@@ -164,7 +155,7 @@ fn record_fits(table: &[u8], header: Header, words: &[u32], roll: &[u32], p: usi
 {
     let status = status_at(roll, p);
     let empty = words[DEPTH_AT] == 0;
-    if status == 2 {
+    if status == ENDED {
         if empty {
             return fields_zero(roll, p);
         }
@@ -173,7 +164,7 @@ fn record_fits(table: &[u8], header: Header, words: &[u32], roll: &[u32], p: usi
     if empty {
         return false;
     }
-    if status == 0 {
+    if status == RUNNING {
         if !fields_zero(roll, p) {
             return false;
         }
@@ -182,7 +173,7 @@ fn record_fits(table: &[u8], header: Header, words: &[u32], roll: &[u32], p: usi
         }
         return leave_fits(table, header, words);
     }
-    if status == 1 {
+    if status == WAITING {
         return wait_fits(table, header, words, roll, p);
     }
     false

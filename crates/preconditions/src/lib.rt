@@ -19,6 +19,9 @@ use process::stack::process_at;
 use process::stack::top;
 use rules::Node;
 use rules::Verdict;
+use rules::kinds::LOOP;
+use rules::kinds::RUNNING;
+use rules::kinds::SEQUENCE;
 use rules::layout::ARRIVAL_WORDS;
 use rules::layout::DEPTH_AT;
 use rules::layout::DOOR_PLACES;
@@ -101,10 +104,10 @@ fn needs_place(
         (statementAt (decode (now (table .entry))) (top (now (words .entry)))) ⌝ }
 {
     let kind = node.kind;
-    if kind == 18 {
+    if kind == SEQUENCE {
         return true;
     }
-    if kind == 20 {
+    if kind == LOOP {
         return evaluate(table, header, words, own, count, node.a as usize) != 0;
     }
     false
@@ -123,7 +126,7 @@ pub fn place_lacked(
         × (processFits (decode (now table)) (now state) (now roll) p ≡ true) ⌝ }
     ensures { λ r. ⌜ r ≡ placeLacked (decode (now (table .entry))) (now (state .entry)) (now (roll .entry)) count p ⌝ }
 {
-    if status_at(roll, p) != 0 {
+    if status_at(roll, p) != RUNNING {
         return false;
     }
     let words = process_at(state, p);

@@ -18,6 +18,15 @@ use crate::stack::top;
 use crate::stack::unwind;
 use loops::nearest_loop;
 use rules::Node;
+use rules::kinds::ASSIGN;
+use rules::kinds::BARRIER;
+use rules::kinds::BRANCH;
+use rules::kinds::CALL;
+use rules::kinds::EXCHANGE;
+use rules::kinds::LATCH;
+use rules::kinds::LEAVE;
+use rules::kinds::LOOP;
+use rules::kinds::SEQUENCE;
 use rules::layout::LATCH_PLACES;
 use rules::layout::LATCHES_AT;
 use table::Header;
@@ -122,7 +131,7 @@ fn leave(table: &[u8], header: Header, words: &mut [u32])
 pub fn is_collective(kind: u32) -> bool
     ensures { λ r. ⌜ r ≡ isCollective kind ⌝ }
 {
-    between(23, kind as usize, 25)
+    between(BARRIER as usize, kind as usize, EXCHANGE as usize)
 }
 
 // The step of the top statement, which is no collective.
@@ -136,13 +145,13 @@ pub fn advance(table: &[u8], header: Header, words: &mut [u32], own: u32, count:
     let a = node.a as usize;
     let b = node.b as usize;
     match kind {
-        17 => assign(table, header, words, own, count, a, b),
-        18 => sequence(words, node.a, node.b),
-        19 => branch(table, header, words, own, count, node),
-        20 => repeat(table, header, words, own, count, node),
-        21 => call(table, words, a),
-        22 => latch(table, header, words, own, count, a, b),
-        26 => leave(table, header, words),
+        ASSIGN => assign(table, header, words, own, count, a, b),
+        SEQUENCE => sequence(words, node.a, node.b),
+        BRANCH => branch(table, header, words, own, count, node),
+        LOOP => repeat(table, header, words, own, count, node),
+        CALL => call(table, words, a),
+        LATCH => latch(table, header, words, own, count, a, b),
+        LEAVE => leave(table, header, words),
         _ => pop(words),
     }
 }

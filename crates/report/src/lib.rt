@@ -2,7 +2,7 @@
 ghost use mathlib.Core.Path.{_≡_};
 ghost use Prim.Native.Nat.{_≤_};
 ghost use lib.ListN.{take};
-ghost use Rattle.rules.specs.Answers.{eventNode, eventWord, teamWord};
+ghost use Rattle.rules.specs.Answers.{eventWord, teamWord};
 use libc::STDOUT_FILENO;
 use rules::Answer;
 use rules::Event;
@@ -33,14 +33,6 @@ pub fn refusal(r: Refusal) {
     text(b"\n");
 }
 
-// 25: "is its input at most 32,768 bytes, with .. all there?"
-pub fn input_refused() {
-    refusal(Refusal {
-        number: 25,
-        place: 0,
-    });
-}
-
 // The line above the first turn.
 pub fn header() {
     text(b"bank what node site\n");
@@ -56,20 +48,6 @@ fn event_word(event: Event) -> Word
         Event::Completed(_) => Word(*b"met     ", 3),
         Event::Waiting => Word(*b"waits   ", 5),
         Event::Ended => Word(*b"ended   ", 5),
-    }
-}
-
-// "the node for arrived and met, else 0"
-fn event_node(event: Event) -> u32
-    ensures { λ r. ⌜ r ≡ eventNode event ⌝ }
-{
-    match event {
-        Event::Moved => 0,
-        Event::Finished => 0,
-        Event::Arrived(n) => n,
-        Event::Completed(n) => n,
-        Event::Waiting => 0,
-        Event::Ended => 0,
     }
 }
 
@@ -100,7 +78,7 @@ pub fn turn(bank: u32, answer: Answer) {
     text(b" ");
     print(&what.0, what.1);
     text(b" ");
-    number(event_node(happened));
+    number(happened.node());
     text(b" ");
     print(&site.0, site.1);
     text(b"\n");

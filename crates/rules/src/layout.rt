@@ -1,15 +1,15 @@
 // The numbers of the layout, each once in the code and once in the definitions: specs/Process.antt (places and offsets),
-// Evaluation.antt (doors, slots), Table.antt (kinds, gathered areas), WellFormed.antt, Arrivals.antt and Acceptance.antt (the other
-// sizes). The functions below hold the two to each other.
+// Evaluation.antt (doors, slots), Table.antt (gathered areas), WellFormed.antt, Arrivals.antt and Acceptance.antt (the other sizes).
+// The functions below hold the two to each other.
 ghost use mathlib.Core.List.{_∷_, []};
 ghost use mathlib.Core.Path.{_≡_};
-ghost use Prim.Native.Nat.{_+_, _<_};
+ghost use Prim.Native.Nat.{_+_, _<_, min};
 ghost use Rattle.rules.specs.Acceptance.{scratchWords};
 ghost use Rattle.rules.specs.Arrivals.{arrivalSize};
 ghost use Rattle.rules.specs.Evaluation.{doors, areaSlots, gatheredSlot};
 ghost use Rattle.rules.specs.Process.{variablePlaces, gatheredPlaces, latchPlaces, stackPlaces, mostProcesses};
 ghost use Rattle.rules.specs.Process.{gatheredAt, doorsAt, latchesAt, depthAt, stackAt, processWords};
-ghost use Rattle.rules.specs.Table.{lastExpression, firstStatement, lastStatement, gatheredAreas};
+ghost use Rattle.rules.specs.Table.{gatheredAreas};
 ghost use Rattle.rules.specs.WellFormed.{mostTableBytes};
 
 // The parts of a process's words, in their order; between latches and stack stands the depth.
@@ -49,17 +49,8 @@ pub const SCRATCH_WORDS: usize = 32;
 
 pub const MOST_PROCESSES: usize = 16;
 
-// What the largest team takes: its state and its start words.
+// The state of the largest team.
 pub const STATE_WORDS: usize = PROCESS_WORDS * MOST_PROCESSES;
-
-pub const START_WORDS: usize = (VARIABLE_PLACES + DOOR_PLACES) * MOST_PROCESSES;
-
-// The bounds of kinds.
-pub const LAST_EXPRESSION: u32 = 12;
-
-pub const FIRST_STATEMENT: u32 = 16;
-
-pub const LAST_STATEMENT: u32 = 26;
 
 // Where slot i of a gathered area stands.
 pub fn slot_at(area: usize, i: usize) -> usize
@@ -67,6 +58,13 @@ pub fn slot_at(area: usize, i: usize) -> usize
     ensures { λ r. ⌜ r ≡ gatheredAt + gatheredSlot area i ⌝ }
 {
     GATHERED_AT + AREA_SLOTS * area + i
+}
+
+// The lesser of two sizes: so much of one as the other has room for.
+pub fn lesser(a: usize, b: usize) -> usize
+    ensures { λ r. ⌜ r ≡ min a b ⌝ }
+{
+    if a < b { a } else { b }
 }
 
 fn sizes() -> [usize; 11]
@@ -99,10 +97,4 @@ fn offsets() -> [usize; 6]
         STACK_AT,
         PROCESS_WORDS,
     ]
-}
-
-fn kinds() -> [u32; 3]
-    ensures { λ r. ⌜ r ≡ lastExpression ∷ firstStatement ∷ lastStatement ∷ [] ⌝ }
-{
-    [LAST_EXPRESSION, FIRST_STATEMENT, LAST_STATEMENT]
 }

@@ -24,6 +24,7 @@ use process::stack::process_at;
 use rules::Event;
 use rules::Stepped;
 use rules::Verdict;
+use rules::kinds::RUNNING;
 use rules::layout::ARRIVAL_WORDS;
 use table::Header;
 use table::shape::refused;
@@ -60,7 +61,7 @@ fn next_process(roll: &[u32], count: u32, last: u32) -> u32
     let mut passed = 0;
     while passed < count {
         p = after(p, count);
-        if status_at(roll, p as usize) == 0 {
+        if status_at(roll, p as usize) == RUNNING {
             return p;
         }
         passed += 1;

@@ -6,12 +6,14 @@ use native.Mathlib.Omega.{arith}
 use lib.ListN.{length}
 use Rattle.rules.specs.declared.Verdict.{Verdict}
 use Rattle.rules.specs.Table.{decode, procedures, nodes}
-use Rattle.rules.specs.WellFormed.{question26, wellBuilt, wellFormed}
-use Rattle.rules.proofs.AnswerLaws.{then-first}
+use Rattle.rules.specs.WellFormed.{question6, question26, builtBy, wellBuilt, wellFormed}
+use Rattle.rules.specs.Answers.{_then_}
+use Rattle.rules.proofs.AnswerLaws.{then-first, then-assoc}
 use Rattle.rules.proofs.Formed.{Formed, built, built-exact, formed}
 use Rattle.table.specs.declared.Header.{Header}
 use Rattle.table.specs.Header.{headerOf, Passing}
-use Rattle.table.proofs.ShapeLaws.{read-procedures, read-nodes}
+use Rattle.table.specs.Sized.{Sized, shapeVerdict}
+use Rattle.table.proofs.ShapeLaws.{sized, read-procedures, read-nodes}
 
 module _ {verdict : List ℕ → Verdict} {table : List ℕ} {header : Header} (p : Passing verdict table header) where
   pub header-nodes : header .nodes ≡ nodes (decode table)
@@ -37,3 +39,10 @@ module _ {table : List ℕ} {header : Header} (r : Passing wellFormed table head
   unfolding wellFormed
   read-built =
       record { passed = then-first (wellBuilt table) (question26 (decode table)) (r .passed); headed = r .headed }
+
+  pub read-sized : Sized table header
+  unfolding wellBuilt shapeVerdict
+  read-sized =
+      rw (r .headed)
+      (sized table
+      (then-first (shapeVerdict table) (question6 table then builtBy (decode table)) (simp (then-assoc, read-built .passed))))

@@ -13,10 +13,10 @@ use crate::words::body;
 use crate::words::node_at;
 use crate::words::word;
 use rules::Node;
-use rules::layout::FIRST_STATEMENT;
+use rules::kinds::FIRST_STATEMENT;
+use rules::kinds::LAST_EXPRESSION;
+use rules::kinds::LAST_STATEMENT;
 use rules::layout::GATHERED_AREAS;
-use rules::layout::LAST_EXPRESSION;
-use rules::layout::LAST_STATEMENT;
 
 // What a field of a node stands for.
 pub const UNNAMED: u16 = 0;
@@ -73,7 +73,11 @@ pub const C: u16 = 1;
 fn roles(kind: u32) -> u16
     ensures { λ r. ⌜ r ≡ getD roles kind 0 ⌝ }
 {
-    if kind < 27 { ROLES[kind as usize] } else { 0 }
+    if kind <= LAST_STATEMENT {
+        ROLES[kind as usize]
+    } else {
+        0
+    }
 }
 
 pub fn digit(roles: u16, place: u16) -> u16
@@ -127,6 +131,17 @@ pub fn is_statement(table: &[u8], header: Header, n: usize) -> bool
         node_at(table, header, n).kind as usize,
         LAST_STATEMENT as usize,
     )
+}
+
+// The same of any number: a node past the last is no statement.
+pub fn names_statement(table: &[u8], header: Header, n: usize) -> bool
+    requires { ⌜ Sized (now table) header ⌝ }
+    ensures { λ r. ⌜ r ≡ isStatement (decode (now (table .entry))) n ⌝ }
+{
+    if header.nodes <= n {
+        return false;
+    }
+    is_statement(table, header, n)
 }
 
 // Question 7.
@@ -219,14 +234,10 @@ pub fn node_fits(table: &[u8], header: Header, n: usize) -> bool
     field_fits(table, header, n, role(node.kind, C), node.c as usize)
 }
 
-// Question 10. A body past the last node is no statement.
+// Question 10.
 pub fn body_is_statement(table: &[u8], header: Header, p: usize) -> bool
     requires { ⌜ Sized (now table) header × (p < header .procedures) ⌝ }
     ensures { λ r. ⌜ r ≡ isStatement (decode (now (table .entry))) (body (decode (now (table .entry))) p) ⌝ }
 {
-    let first = body(table, p);
-    if header.nodes <= first {
-        return false;
-    }
-    is_statement(table, header, first)
+    names_statement(table, header, body(table, p))
 }

@@ -9,6 +9,17 @@ ghost use Rattle.rules.specs.Process.{mostProcesses, gatheredAt, doorsAt, proce
 ghost use Rattle.rules.specs.Table.{decode, Operator, expressionOf, gatheredAreas};
 ghost use Rattle.values.specs.Given.{Given, Part, operatorOf};
 use rules::Node;
+use rules::kinds::CONSTANT;
+use rules::kinds::DIFFERENCE;
+use rules::kinds::DOOR;
+use rules::kinds::EQUAL;
+use rules::kinds::LESS;
+use rules::kinds::OWN_NUMBER;
+use rules::kinds::PRODUCT;
+use rules::kinds::QUOTIENT;
+use rules::kinds::SLOT;
+use rules::kinds::SUM;
+use rules::kinds::VARIABLE;
 use rules::layout::DOOR_PLACES;
 use rules::layout::DOORS_AT;
 use rules::layout::slot_at;
@@ -53,12 +64,12 @@ pub(crate) fn apply(kind: u32, x: u32, y: u32) -> u32
     ensures { λ r. ⌜ r ≡ applied (operatorOf kind) x y ⌝ }
 {
     match kind {
-        6 => wrapping_add_u32(x, y),
-        7 => difference(x, y),
-        8 => product(x, y),
-        9 => quotient(x, y),
-        10 => if x < y { 1 } else { 0 },
-        11 => if x == y { 1 } else { 0 },
+        SUM => wrapping_add_u32(x, y),
+        DIFFERENCE => difference(x, y),
+        PRODUCT => product(x, y),
+        QUOTIENT => quotient(x, y),
+        LESS => if x < y { 1 } else { 0 },
+        EQUAL => if x == y { 1 } else { 0 },
         _ => both(x, y),
     }
 }
@@ -79,14 +90,14 @@ fn leaf(node: Node, words: &[u32], own: u32, count: u32) -> u32
         → r ≡ valueOf (environment (now (words .entry)) own count) part (expressionOf node)) ⌝ }
 {
     let kind = node.kind;
-    if kind == 0 {
+    if kind == CONSTANT {
         return constant(node);
     }
-    if kind == 1 {
+    if kind == VARIABLE {
         let a = node.a as usize;
         return words[a];
     }
-    if kind == 2 { own } else { count }
+    if kind == OWN_NUMBER { own } else { count }
 }
 
 // "own door word, door A; from 12 on the value is 0"
@@ -124,14 +135,14 @@ pub fn evaluate(table: &[u8], header: Header, words: &[u32], own: u32, count: u3
 {
     let node = node_at(table, header, n);
     let kind = node.kind;
-    if kind < 4 {
+    if kind < DOOR {
         return leaf(node, words, own, count);
     }
     let x = value_at(table, header, words, own, count, node.a as usize);
-    if kind == 4 {
+    if kind == DOOR {
         return door(words, x);
     }
-    if kind == 5 {
+    if kind == SLOT {
         return slot(words, count, x, node.b as usize);
     }
     let y = value_at(table, header, words, own, count, node.b as usize);
@@ -146,7 +157,7 @@ pub fn value_at(table: &[u8], header: Header, words: &[u32], own: u32, count: u3
 {
     let node = node_at(table, header, n);
     let kind = node.kind;
-    if kind < 4 {
+    if kind < DOOR {
         return leaf(node, words, own, count);
     }
     evaluate(table, header, words, own, count, n)

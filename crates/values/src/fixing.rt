@@ -9,6 +9,8 @@ ghost use Rattle.table.specs.Header.{Passing};
 use crate::Fixed;
 use crate::evaluation::apply;
 use crate::evaluation::constant;
+use rules::kinds::CONSTANT;
+use rules::kinds::SUM;
 use table::Header;
 use table::words::node_at;
 
@@ -19,10 +21,10 @@ pub fn fixing(table: &[u8], header: Header, n: usize) -> Fixed
 {
     let node = node_at(table, header, n);
     let kind = node.kind;
-    if kind == 0 {
+    if kind == CONSTANT {
         return Fixed::Value(constant(node));
     }
-    if kind < 6 {
+    if kind < SUM {
         return Fixed::Nothing;
     }
     let Fixed::Value(first) = fixing(table, header, node.a as usize) else {

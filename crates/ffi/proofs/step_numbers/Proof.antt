@@ -9,8 +9,8 @@ enum-known-stepped c = search needs
 event-number-requires : tie.Need-event-number-requires
 event-number-requires c κs = search needs
 
-event-node-requires : tie.Need-event-node-requires
-event-node-requires c κs = search needs
+node-requires : tie.Need-node-requires
+node-requires c κs = search needs
 
 team-number-requires : tie.Need-team-number-requires
 team-number-requires c κs = search needs
@@ -19,7 +19,7 @@ enum-known-stepped-2 : tie.Need-enum-known-stepped-2
 enum-known-stepped-2 c = search needs
 
 returns : tie.Need-returns
-returns c = simp (c .before .before .event-number .ensures, c .before .event-node .ensures, c .team-number .ensures, c .before .before .before .before .stepped .given .1)
+returns c = simp (c .before .before .event-number .ensures, c .before .node .ensures, c .team-number .ensures, c .before .before .before .before .stepped .given .1)
 
 returns-2 : tie.Need-returns-2
 returns-2 c = simp (c .before .stepped2 .given .1)
@@ -30,7 +30,7 @@ step-numbers-spec =
     (tie.spec
     enum-known-stepped
     event-number-requires
-    event-node-requires
+    node-requires
     team-number-requires
     enum-known-stepped-2
     returns

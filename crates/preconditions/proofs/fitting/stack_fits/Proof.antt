@@ -10,6 +10,7 @@ use Rattle.rules.specs.Choice.{allBelow}
 use Rattle.rules.specs.Process.{depthAt, stackAt, depth}
 use Rattle.rules.specs.Step.{stackFits}
 use Rattle.rules.specs.WellFormed.{isStatement}
+use Rattle.table.proofs.PassingLaws.{read-sized}
 use Rattle.rules.proofs.ChoiceLaws.{Passed, passed-none, passed-more, all-true, all-false}
 use Rattle.preconditions.proofs.fitting.stack_fits.Statement.{statement}
 use Rattle.preconditions.proofs.fitting.stack_fits.Tie as tie
@@ -49,39 +50,39 @@ mul-at c = omega arith
 add-at : tie.Need-add-at Inv-loop μ-loop
 add-at c = omega arith
 
-mul-is-statement : tie.Need-mul-is-statement Inv-loop μ-loop
-mul-is-statement c = omega arith
+mul-names-statement : tie.Need-mul-names-statement Inv-loop μ-loop
+mul-names-statement c = omega arith
 
-shared-slice-read-is-statement : tie.Need-shared-slice-read-is-statement Inv-loop μ-loop
-shared-slice-read-is-statement c = omega arith
+shared-slice-read-names-statement : tie.Need-shared-slice-read-names-statement Inv-loop μ-loop
+shared-slice-read-names-statement c = omega arith
 
-cast-is-statement : tie.Need-cast-is-statement Inv-loop μ-loop
-cast-is-statement c = omega (arith, c .shared-slice-known4 .given (stackAt + 2 * c .before .before .loop .i))
+cast-names-statement : tie.Need-cast-names-statement Inv-loop μ-loop
+cast-names-statement c = omega (arith, c .shared-slice-known4 .given (stackAt + 2 * c .before .before .loop .i))
 
-is-statement-requires : tie.Need-is-statement-requires Inv-loop μ-loop
-is-statement-requires c κs = c .before .before .before .before .before .before .pre .0
+names-statement-requires : tie.Need-names-statement-requires Inv-loop μ-loop
+names-statement-requires c κs = read-sized (c .before .before .before .before .before .before .pre .0)
 
 returns : tie.Need-returns Inv-loop μ-loop
 unfolding stackFits
 returns c =
     let args = c .before .before .before .before .before .before .before .before .args in
     sym (all-false (entry-fits (args .table .now) (args .words .now)) _ (2 * c .before .before .before .before .loop .i) (omega arith)
-    (sym (c .before .is-statement .ensures) ∙ not-true _ (c .if1 .taken)))
+    (sym (c .before .names-statement .ensures) ∙ not-true _ (c .if1 .taken)))
 
-add-is-statement : tie.Need-add-is-statement Inv-loop μ-loop
-add-is-statement c = omega arith
+add-names-statement : tie.Need-add-names-statement Inv-loop μ-loop
+add-names-statement c = omega arith
 
-mul-is-statement-2 : tie.Need-mul-is-statement-2 Inv-loop μ-loop
-mul-is-statement-2 c = omega arith
+mul-names-statement-2 : tie.Need-mul-names-statement-2 Inv-loop μ-loop
+mul-names-statement-2 c = omega arith
 
-shared-slice-read-is-statement-2 : tie.Need-shared-slice-read-is-statement-2 Inv-loop μ-loop
-shared-slice-read-is-statement-2 c = omega arith
+shared-slice-read-names-statement-2 : tie.Need-shared-slice-read-names-statement-2 Inv-loop μ-loop
+shared-slice-read-names-statement-2 c = omega arith
 
-cast-is-statement-2 : tie.Need-cast-is-statement-2 Inv-loop μ-loop
-cast-is-statement-2 c = omega (arith, c .shared-slice-known5 .given (stackAt + 2 * c .before .before .before .before .before .loop .i + 1))
+cast-names-statement-2 : tie.Need-cast-names-statement-2 Inv-loop μ-loop
+cast-names-statement-2 c = omega (arith, c .shared-slice-known5 .given (stackAt + 2 * c .before .before .before .before .before .loop .i + 1))
 
-is-statement-requires-2 : tie.Need-is-statement-requires-2 Inv-loop μ-loop
-is-statement-requires-2 c κs = c .before .before .before .before .before .before .before .before .before .pre .0
+names-statement-requires-2 : tie.Need-names-statement-requires-2 Inv-loop μ-loop
+names-statement-requires-2 c κs = read-sized (c .before .before .before .before .before .before .before .before .before .pre .0)
 
 returns-2 : tie.Need-returns-2 Inv-loop μ-loop
 unfolding stackFits
@@ -90,7 +91,7 @@ returns-2 c =
     let i = c .before .before .before .before .before .before .before .loop .i in
     sym (all-false (entry-fits (args .table .now) (args .words .now)) _ (2 * i + 1) (omega arith)
     (sym (entry-at (args .table .now) (args .words .now) (2 * i + 1) (stackAt + 2 * i + 1) _ (omega arith)
-    (c .before .is-statement2 .ensures))
+    (c .before .names-statement2 .ensures))
     ∙ not-true _ (c .if2 .taken)))
 
 add-i : tie.Need-add-i Inv-loop μ-loop
@@ -104,10 +105,10 @@ loop-again c =
     let args = c .before .before .before .before .before .before .before .before .before .before .before .args in
     let loop = c .before .before .before .before .before .before .before .loop in
     let i = loop .i in
-    let first = sym (c .before .before .before .before .is-statement .ensures) ∙ not-false _ (c .before .before .before .if1 .left) in
+    let first = sym (c .before .before .before .before .names-statement .ensures) ∙ not-false _ (c .before .before .before .if1 .left) in
     let second =
     sym (entry-at (args .table .now) (args .words .now) (2 * i + 1) (stackAt + 2 * i + 1) _ (omega arith)
-    (c .before .is-statement2 .ensures))
+    (c .before .names-statement2 .ensures))
     ∙ not-false _ (c .if2 .left) in
     let both = passed-more _ _ (passed-more _ _ (loop .inv .1) first) second in
     (omega arith, λ k l. both k (omega arith))
@@ -119,22 +120,22 @@ returns-3 c =
     let loop = c .before .before .loop in
     sym (all-true (entry-fits (args .table .now) (args .words .now)) _ (λ k l. loop .inv .1 k (omega arith)))
 
-add-is-statement-2 : tie.Need-add-is-statement-2 Inv-loop μ-loop
-add-is-statement-2 c = omega arith
+add-names-statement-2 : tie.Need-add-names-statement-2 Inv-loop μ-loop
+add-names-statement-2 c = omega arith
 
-mul-is-statement-3 : tie.Need-mul-is-statement-3 Inv-loop μ-loop
-mul-is-statement-3 c = omega arith
+mul-names-statement-3 : tie.Need-mul-names-statement-3 Inv-loop μ-loop
+mul-names-statement-3 c = omega arith
 
-shared-slice-read-is-statement-3 : tie.Need-shared-slice-read-is-statement-3 Inv-loop μ-loop
-shared-slice-read-is-statement-3 c = omega arith
+shared-slice-read-names-statement-3 : tie.Need-shared-slice-read-names-statement-3 Inv-loop μ-loop
+shared-slice-read-names-statement-3 c = omega arith
 
-cast-is-statement-3 : tie.Need-cast-is-statement-3 Inv-loop μ-loop
-cast-is-statement-3 c =
+cast-names-statement-3 : tie.Need-cast-names-statement-3 Inv-loop μ-loop
+cast-names-statement-3 c =
     let words = c .before .before .before .before .before .before .before .args .words .now in
     omega (arith, c .shared-slice-known6 .given (depthAt + getD words depthAt 0))
 
-is-statement-requires-3 : tie.Need-is-statement-requires-3 Inv-loop μ-loop
-is-statement-requires-3 c κs = c .before .before .before .before .before .before .before .pre .0
+names-statement-requires-3 : tie.Need-names-statement-requires-3 Inv-loop μ-loop
+names-statement-requires-3 c κs = read-sized (c .before .before .before .before .before .before .before .pre .0)
 
 returns-4 : tie.Need-returns-4 Inv-loop μ-loop
 unfolding stackFits
@@ -144,7 +145,7 @@ returns-4 c =
     let high = getD (args .words .now) depthAt 0 in
     let odd : high ≡ 2 * loop .i + 1 = omega arith in
     decides (entry-fits (args .table .now) (args .words .now)) (2 * loop .i) high _ odd (loop .inv .1)
-    (entry-at (args .table .now) (args .words .now) (2 * loop .i) (depthAt + high) _ (omega arith) (c .is-statement3 .ensures))
+    (entry-at (args .table .now) (args .words .now) (2 * loop .i) (depthAt + high) _ (omega arith) (c .names-statement3 .ensures))
 
 pub stack-fits-spec : {M : Type 1} → statement M
 stack-fits-spec =
@@ -157,24 +158,24 @@ stack-fits-spec =
     loop-holds
     mul-at
     add-at
-    mul-is-statement
-    shared-slice-read-is-statement
-    cast-is-statement
-    is-statement-requires
+    mul-names-statement
+    shared-slice-read-names-statement
+    cast-names-statement
+    names-statement-requires
     returns
-    add-is-statement
-    mul-is-statement-2
-    shared-slice-read-is-statement-2
-    cast-is-statement-2
-    is-statement-requires-2
+    add-names-statement
+    mul-names-statement-2
+    shared-slice-read-names-statement-2
+    cast-names-statement-2
+    names-statement-requires-2
     returns-2
     add-i
     loop-less
     loop-again
     returns-3
-    add-is-statement-2
-    mul-is-statement-3
-    shared-slice-read-is-statement-3
-    cast-is-statement-3
-    is-statement-requires-3
+    add-names-statement-2
+    mul-names-statement-3
+    shared-slice-read-names-statement-3
+    cast-names-statement-3
+    names-statement-requires-3
     returns-4)
