@@ -1,23 +1,27 @@
--- Fairness: in any stretch of as many chosen turns as there are processes, each process that runs all through it is served.
+-- Fairness: at any point of a call, a process that stays running is served within as many turns as there are processes.
 use mathlib.Core.Bool.{Bool, true, false, cond, not}
 use mathlib.Core.List.{List, [], _∷_}
 use mathlib.Core.Logic.{_⊎_, inl, inr}
-use mathlib.Core.Path.{_≡_, refl, sym, ap, _∙_}
+use mathlib.Core.Path.{_≡_, refl, sym, ap, subst, _∙_}
 use Prim.Native.Nat.{ℕ, zero, suc, _+_, _-_, _/_, _%_, _≤_, _<_}
 use native.Mathlib.Decide.{decLt}
 use native.Mathlib.Nat.{mod-eq-of-lt, mod-eq-sub-mod, add-mod-right}
 use native.Mathlib.Omega.{arith}
 use lib.Dec.{eqb, ltb}
 use lib.ListN.{length, take, drop}
-use borrow.Author.Tests.{eq-eqb, ltb-true}
+use borrow.Author.Tests.{eq-eqb, ltb-true, lt-ltb}
+use Rattle.rules.specs.declared.Answer.{Answer}
+use Rattle.rules.specs.declared.Refusal.{Refusal}
+use Rattle.rules.specs.declared.Stepped.{Stepped}
+use Rattle.rules.specs.declared.Stepped.the-variants.{Taken, Refused}
 use Rattle.rules.specs.declared.Verdict.{Verdict}
 use Rattle.rules.specs.declared.Verdict.the-variants.{Accepted, Refused as Failed}
 use Rattle.rules.specs.Answers.{refused}
 use Rattle.rules.specs.Arrivals.{running, waiting, statusAt, endedRecord}
 use Rattle.rules.specs.Collective.{releasedRoll}
-use Rattle.rules.specs.Run.{Team, afterTurn, afterTurns}
-use Rattle.rules.specs.Scheduling.{placeAfter, passedOver, someRuns, nextProcess, Served}
-use Rattle.rules.specs.Scheduling.{serving, chosen, chosenBy, chosenIn, RunsThrough, Fair}
+use Rattle.rules.specs.Run.{Team, turn, afterTurn, afterTurns}
+use Rattle.rules.specs.Scheduling.{placeAfter, passedOver, someRuns, nextProcess, Served, ifTaken, serving}
+use Rattle.rules.specs.Scheduling.{chosen, chosenBy, chosenIn, lastOf, Worked, nextTurns, StaysRunning, FairlyServed}
 use Rattle.rules.specs.WellFormed.{Occurs}
 use Rattle.rules.specs.Start.{question20, question21}
 use Rattle.rules.specs.Step.{Outcome, processesIn, question22, completed, stepRunning, stepTaken}
@@ -26,7 +30,7 @@ use Rattle.rules.specs.WellFormed.{wellFormed}
 use Rattle.rules.proofs.AnswerLaws.{then-first, then-rest}
 use Rattle.rules.proofs.ArrivalLaws.{with-arrival-length, each-arrival-length}
 use Rattle.rules.proofs.ChoiceLaws.{first-passed}
-use Rattle.rules.proofs.ServingLaws.{next-found, next-below, by-serving}
+use Rattle.rules.proofs.ServingLaws.{next-found, next-below, next-runs, taken-worked, by-serving}
 use Rattle.rules.proofs.TurnCases.{by-test, by-step}
 use Rattle.rules.specs.Table.{decode}
 
@@ -117,87 +121,133 @@ module _ (roll : List ℕ) (count last d p : ℕ) (l : p < count) (away : Away c
         | no less ↦ omega arith
       ]
 
+-- a turn that was not idle was taken
+if-worked : {A : Type 0} (s : Stepped) → Worked s → (goOn : A) (stop : Refusal → A) → ifTaken s goOn stop ≡ goOn
+if-worked (Taken a) w goOn stop = refl
+if-worked (Refused r) w goOn stop = absurd w
+
 module _ (table : List ℕ) (count p : ℕ) (l : p < count) where
-  record FairList (turns made last : ℕ) (team : Team) (end : Served) (list : List ℕ) : Type 0 where
-    pub soon : last < count → processesIn (team .roll) ≡ count → (k d : ℕ) → d < count → d < k → Away count last d p
-        → k ≤ length list → RunsThrough table p team (take k list) → Occurs p (take k list)
-    pub stretch : last < count → processesIn (team .roll) ≡ count → (i : ℕ) → i + count ≤ length list
-        → RunsThrough table p (afterTurns table team (take i list)) (take count (drop i list))
-        → Occurs p (take count (drop i list))
-
-  fair-none : (turns made last : ℕ) (team : Team) (end : Served) → FairList turns made last team end []
-  fair-none turns made last team end =
-      record {
-        soon = λ m sized k d b n away few runs. absurd (omega arith);
-        stretch = λ m sized i few runs. absurd (omega arith);
-      }
-
-  module _ (turns made last : ℕ) (team : Team) (some : someRuns (team .roll) last ≡ true) (end : Served) (list : List ℕ) where
+  -- a point of a call: a last process of the team's, and p runs
+  module _ (last : ℕ) (team : Team) (m : last < count) (sized : processesIn (team .roll) ≡ count)
+      (runs : statusAt (team .roll) p ≡ running) where
     abbrev next : ℕ
     next = nextProcess (team .roll) last
 
-    module _
-        (rest : FairList turns (suc made) (nextProcess (team .roll) last)
-        (afterTurn table team (nextProcess (team .roll) last)) end list)
-        (m : last < count) (sized : processesIn (team .roll) ≡ count) where
-      next-low : next < count
-      next-low = rw sized at (next-below (team .roll) last some)
+    some : someRuns (team .roll) last ≡ true
+    some =
+        let way = away-some count last p m l in
+        rw sized
+        (lt-ltb (passedOver (team .roll) count last) count
+        (omega (arith, passed-low (team .roll) count last (way .0) p l (way .2) runs, way .1)))
 
-      found : passedOver (team .roll) count last < count
-      found = rw sized at (next-found (team .roll) last some)
+    next-low : next < count
+    next-low = rw sized at (next-below (team .roll) last some)
 
-      next-is : next ≡ placeAfter count last (passedOver (team .roll) count last)
-      unfolding nextProcess
-      next-is = rw sized refl
+    sized-after : processesIn (afterTurn table team next .roll) ≡ count
+    sized-after = processes-kept table (team .state) (team .roll) next ∙ sized
 
-      sized-after : processesIn (afterTurn table team next .roll) ≡ count
-      sized-after = processes-kept table (team .state) (team .roll) next ∙ sized
+    next-is : next ≡ placeAfter count last (passedOver (team .roll) count last)
+    unfolding nextProcess
+    next-is = rw sized refl
 
-      next-away : Away count last (passedOver (team .roll) count last) next
-      next-away = rw next-is (place-away count last (passedOver (team .roll) count last) m found)
+    next-away : Away count last (passedOver (team .roll) count last) next
+    next-away = rw next-is (place-away count last (passedOver (team .roll) count last) m (rw sized at (next-found (team .roll) last some)))
 
-      soon-taken : (k d : ℕ) → d < count → d < k → Away count last d p → k ≤ length (next ∷ list)
-          → RunsThrough table p team (take k (next ∷ list)) → Occurs p (take k (next ∷ list))
-      unfolding RunsThrough
-      soon-taken zero d b n away few runs = absurd (omega arith)
-      soon-taken (suc k) d b n away few runs =
-          let low = passed-low (team .roll) count last d p l away (runs .0) in
-          elim (decLt (passedOver (team .roll) count last) d) [
-            | yes less ↦
-                inr
-                (rest .soon next-low sized-after k (d - passedOver (team .roll) count last - 1) (omega arith) (omega arith)
-                (away-nearer count last d p (passedOver (team .roll) count last) next l less away next-away)
-                (omega arith) (runs .1))
-            | no more ↦
-                let e : passedOver (team .roll) count last ≡ d = omega (arith, low) in
-                inl (sym (next-is ∙ (ap (placeAfter count last) e ∙ away-place count last d p l away)))
-          ]
+    next-worked : stepVerdict table (team .state) (team .roll) next ≡ Accepted → Worked (turn table team next .answer)
+    unfolding stepped steppedBy
+    next-worked v =
+        rw v (taken-worked table (team .state) (team .roll) (processesIn (team .roll)) next (next-runs (team .roll) last some))
 
-      first-stretch : count ≤ length (next ∷ list) → RunsThrough table p team (take count (next ∷ list))
-          → Occurs p (take count (next ∷ list))
-      first-stretch few runs =
-          let start = away-some count last p m l in
-          soon-taken count (start .0) (start .1) (start .1) (start .2) few runs
+  -- p is among the next turns, if it is near enough
+  soon : (n d last : ℕ) (team : Team) → last < count → processesIn (team .roll) ≡ count → d < count → d < n → Away count last d p
+      → StaysRunning table p team (nextTurns table n last team) → Occurs p (nextTurns table n last team)
+  unfolding StaysRunning nextTurns
+  soon zero d last team m sized b n away stays = absurd (omega arith)
+  soon (suc n) d last team m sized b h away stays =
+      let low = passed-low (team .roll) count last d p l away (stays .0) in
+      elim (decLt (passedOver (team .roll) count last) d) [
+        | yes less ↦
+            inr
+            (soon n (d - passedOver (team .roll) count last - 1) (nextProcess (team .roll) last) _
+            (next-low last team m sized (stays .0)) (sized-after last team m sized (stays .0)) (omega arith) (omega arith)
+            (away-nearer count last d p (passedOver (team .roll) count last) (nextProcess (team .roll) last) l less away
+            (next-away last team m sized (stays .0)))
+            (stays .2))
+        | no more ↦
+            let e : passedOver (team .roll) count last ≡ d = omega (arith, low) in
+            inl (sym (next-is last team m sized (stays .0) ∙ (ap (placeAfter count last) e ∙ away-place count last d p l away)))
+      ]
 
-      stretch-taken : (i : ℕ) → i + count ≤ length (next ∷ list)
-          → RunsThrough table p (afterTurns table team (take i (next ∷ list))) (take count (drop i (next ∷ list)))
-          → Occurs p (take count (drop i (next ∷ list)))
-      unfolding afterTurns
-      stretch-taken zero few runs = first-stretch (omega arith) runs
-      stretch-taken (suc i) few runs = rest .stretch next-low sized-after i (omega arith) runs
+  -- and they are those that serving makes, if so many are left
+  made : (n turns last : ℕ) (team : Team) → last < count → processesIn (team .roll) ≡ count → n ≤ turns
+      → StaysRunning table p team (nextTurns table n last team) → take n (chosen table turns last team) ≡ nextTurns table n last team
+  unfolding StaysRunning nextTurns chosen
+  made zero turns last team m sized few stays = refl
+  made (suc n) zero last team m sized few stays = absurd (omega arith)
+  made (suc n) (suc turns) last team m sized few stays =
+      rw (
+        some last team m sized (stays .0),
+        if-worked (turn table team (nextProcess (team .roll) last) .answer) (next-worked last team m sized (stays .0) (stays .1)) _ _,
+      )
+      (ap (λ list. nextProcess (team .roll) last ∷ list)
+      (made n turns (nextProcess (team .roll) last) _ (next-low last team m sized (stays .0)) (sized-after last team m sized (stays .0))
+      (omega arith) (stays .2)))
 
-  fair-list : (turns made last : ℕ) (team : Team)
-      → FairList turns made last team (serving table turns made last team) (chosen table turns last team)
-  fair-list =
-      by-serving FairList table
+-- what is left of a call after some of its turns is a call
+module _ (table : List ℕ) (count : ℕ) where
+  record Left (turns last : ℕ) (team : Team) (list : List ℕ) (i : ℕ) : Type 0 where
+    pub rest : drop i list ≡ chosen table (turns - i) (lastOf last (take i list)) (afterTurns table team (take i list))
+    pub low : lastOf last (take i list) < count
+    pub sized : processesIn (afterTurns table team (take i list) .roll) ≡ count
+
+  record Later (turns before last : ℕ) (team : Team) (end : Served) (list : List ℕ) : Type 0 where
+    pub whole : list ≡ chosen table turns last team
+    pub left : last < count → processesIn (team .roll) ≡ count → (i : ℕ) → i ≤ length list → Left turns last team list i
+
+  at-once : (turns last : ℕ) (team : Team) (list : List ℕ) → list ≡ chosen table turns last team → last < count
+      → processesIn (team .roll) ≡ count → Left turns last team list 0
+  unfolding lastOf afterTurns
+  at-once turns last team list e m sized =
+      let z : turns - 0 ≡ turns = omega arith in
+      record { rest = rw z e; low = m; sized = sized }
+
+  later-none : (turns before last : ℕ) (team : Team) (end : Served) → [] ≡ chosen table turns last team → Later turns before last team end []
+  later-none turns before last team end e =
+      record {
+        whole = e;
+        left = λ m sized i h. let z : i ≡ 0 = omega arith in rw z (at-once turns last team [] e m sized);
+      }
+
+  module _ (turns before last : ℕ) (team : Team) (a : Answer) (some : someRuns (team .roll) last ≡ true)
+      (e : turn table team (nextProcess (team .roll) last) .answer ≡ Taken a) (end : Served) (list : List ℕ)
+      (later : Later turns (suc before) (nextProcess (team .roll) last) (afterTurn table team (nextProcess (team .roll) last)) end list) where
+    whole-taken : nextProcess (team .roll) last ∷ list ≡ chosen table (suc turns) last team
+    unfolding chosen
+    whole-taken = rw (some, e) (ap (λ rest. nextProcess (team .roll) last ∷ rest) (later .whole))
+
+    left-taken : last < count → processesIn (team .roll) ≡ count → (i : ℕ) → i ≤ length (nextProcess (team .roll) last ∷ list)
+        → Left (suc turns) last team (nextProcess (team .roll) last ∷ list) i
+    unfolding lastOf afterTurns
+    left-taken m sized zero h = at-once (suc turns) last team _ whole-taken m sized
+    left-taken m sized (suc i) h =
+        let on = later .left (rw sized at (next-below (team .roll) last some))
+        (processes-kept table (team .state) (team .roll) (nextProcess (team .roll) last) ∙ sized) i (omega arith) in
+        let z : suc turns - suc i ≡ turns - i = omega arith in
+        record { rest = rw z (on .rest); low = on .low; sized = on .sized }
+
+  later-in : (turns before last : ℕ) (team : Team)
+      → Later turns before last team (serving table turns before last team) (chosen table turns last team)
+  unfolding chosen
+  later-in =
+      by-serving Later table
       (record {
-        used = λ made last team. fair-none zero made last team _;
-        none = λ turns made last team e. fair-none (suc turns) made last team _;
-        refuses = λ turns made last team r some e. fair-none (suc turns) made last team _;
-        takes = λ turns made last team a some e end list rest.
+        used = λ before last team. later-none zero before last team _ refl;
+        none = λ turns before last team e. later-none (suc turns) before last team _ (rw e refl);
+        refuses = λ turns before last team r some e. later-none (suc turns) before last team _ (rw (some, e) refl);
+        takes = λ turns before last team a some e end list later.
             record {
-              soon = soon-taken turns made last team some end list rest;
-              stretch = stretch-taken turns made last team some end list rest;
+              whole = whole-taken turns before last team a some e end list later;
+              left = left-taken turns before last team a some e end list later;
             };
       })
 
@@ -217,20 +267,31 @@ has-last table state roll last v =
     (passed-22 (processesIn roll) last (ltb last (processesIn roll))
     (then-first (question22 (processesIn roll) last) _ after20))
 
--- by the answer to a call's questions
-module _ (table : List ℕ) (team : Team) (last turns i p : ℕ) (l : p < processesIn (team .roll)) where
-  fair-by : (v : Verdict) → (v ≡ Accepted → last < processesIn (team .roll))
-      → i + processesIn (team .roll) ≤ length (chosenBy v table team last turns)
-      → RunsThrough table p (afterTurns table team (take i (chosenBy v table team last turns)))
-      (take (processesIn (team .roll)) (drop i (chosenBy v table team last turns)))
-      → Occurs p (take (processesIn (team .roll)) (drop i (chosenBy v table team last turns)))
-  unfolding chosenBy
-  fair-by Accepted has few runs =
-      fair-list table (processesIn (team .roll)) p l turns 0 last team .stretch (has refl) refl i few runs
-  fair-by (Failed r) has few runs = absurd (omega arith)
+module _ (table : List ℕ) (team : Team) (last turns i p : ℕ) (l : p < processesIn (team .roll)) (few : i + processesIn (team .roll) ≤ turns) where
+  abbrev FairIn : List ℕ → Type 0
+  FairIn list =
+      i ≤ length list
+      → StaysRunning table p (afterTurns table team (take i list))
+      (nextTurns table (processesIn (team .roll)) (lastOf last (take i list)) (afterTurns table team (take i list)))
+      → Occurs p (take (processesIn (team .roll)) (drop i list))
 
-pub fair : Fair
+  fair-chosen : last < processesIn (team .roll) → FairIn (chosen table turns last team)
+  fair-chosen m h stays =
+      let count : ℕ = processesIn (team .roll) in
+      let left = later-in table count turns 0 last team .left m refl i h in
+      let way = away-some count _ p (left .low) l in
+      subst (Occurs p)
+      (sym (ap (take count) (left .rest) ∙ made table count p l count (turns - i) _ _ (left .low) (left .sized) (omega arith) stays))
+      (soon table count p l count (way .0) _ _ (left .low) (left .sized) (way .1) (way .1) (way .2) stays)
+
+  -- by the answer to a call's questions
+  fair-by : (v : Verdict) → v ≡ Accepted → last < processesIn (team .roll) → FairIn (chosenBy v table team last turns)
+  unfolding chosenBy
+  fair-by Accepted e m = fair-chosen m
+  fair-by (Failed r) e m = let z : _≡_ {A = ℕ} 0 1 = cc in absurd (omega arith)
+
+pub fairly-served : FairlyServed
 unfolding chosenIn
-fair table team last turns i p l few runs =
-    fair-by table team last turns i p l (teamVerdict table (team .state) (team .roll) last)
-    (has-last table (team .state) (team .roll) last) few runs
+fairly-served table team last turns i p v l h few stays =
+    fair-by table team last turns i p l few (teamVerdict table (team .state) (team .roll) last) v
+    (has-last table (team .state) (team .roll) last v) h stays

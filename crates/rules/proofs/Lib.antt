@@ -23,6 +23,7 @@ pub mod CollectiveLaws
 pub mod ArrivalLaws
 pub mod StatusLaws
 pub mod VerdictLaws
+pub mod InputLaws
 pub mod View
 pub mod VisibleLaws
 pub mod SingleLaws
@@ -39,6 +40,7 @@ pub mod SoundRun
 pub mod LiveTurns
 pub mod ServingLaws
 pub mod FairLaws
+pub mod MoveLaws
 pub mod Together
 pub mod TogetherStep
 pub mod Agreement

@@ -65,7 +65,7 @@ pub received-length : (roll : List ℕ) (count : ℕ) (k : Collective) (p : ℕ)
 unfolding received
 received-length roll count barrier p words = refl
 received-length roll count (broadcast a b c) p words = simp length-set
-received-length roll count (exchange a r) p words = gathered-length roll r count words
+received-length roll count (exchange a r) p words = gathered-length roll _ count words
 
 -- the words that a latch statement stores to
 pub latched-length : (words : List ℕ) (test : Bool) (a v : ℕ) → length (cond test (set words a v) words) ≡ length words
@@ -258,7 +258,7 @@ pub received-depth : (roll : List ℕ) (count : ℕ) (k : Collective) (p : ℕ) 
 unfolding received
 received-depth roll count barrier p words h low = refl
 received-depth roll count (broadcast a b c) p words h low = set-depth words a _ low
-received-depth roll count (exchange a r) p words h low = gathered-other roll r count words depthAt (λ i l. omega arith)
+received-depth roll count (exchange a r) p words h low = gathered-other roll _ count words depthAt (λ i l. omega arith)
 
 pub received-entry : (roll : List ℕ) (count : ℕ) (k : Collective) (p : ℕ) (words : List ℕ) (i : ℕ) → count ≤ mostProcesses → StoresLow k
     → entry (received roll count k p words) i ≡ entry words i
@@ -266,7 +266,7 @@ unfolding received
 received-entry roll count barrier p words i h low = refl
 received-entry roll count (broadcast a b c) p words i h low = set-entry words a _ i low
 received-entry roll count (exchange a r) p words i h low =
-    gathered-other roll r count words (stackAt + i) (λ j l. omega arith)
+    gathered-other roll _ count words (stackAt + i) (λ j l. omega arith)
 
 pub stack-received : (roll : List ℕ) (count : ℕ) (k : Collective) (p : ℕ) (words : List ℕ) → count ≤ mostProcesses → StoresLow k
     → stack (received roll count k p words) ≡ stack words

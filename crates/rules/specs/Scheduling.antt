@@ -134,19 +134,29 @@ ServesOn =
     (table : List ℕ) (team : Team) (last turns : ℕ) → teamVerdict table (team .state) (team .roll) last ≡ Accepted
     → Stopped table turns (servedIn table team last turns)
 
--- 2: p runs before each turn of a list
-unfoldable pub RunsThrough : List ℕ → ℕ → Team → List ℕ → Type 0
-RunsThrough table p team [] = Unit {0}
-RunsThrough table p team (q ∷ turns) = (statusAt (team .roll) p ≡ running) × RunsThrough table p (afterTurn table team q) turns
+-- the next turns that serving would make, so many, whether they would be refused or not
+unfoldable pub nextTurns : List ℕ → ℕ → ℕ → Team → List ℕ
+nextTurns table zero last team = []
+nextTurns table (suc n) last team =
+    let next = nextProcess (team .roll) last in
+    next ∷ nextTurns table n next (afterTurn table team next)
 
--- "A bank that stays running is served within as many turns as there are banks, if so many are left and none of them would
--- be refused": in any stretch of that length, from turn i on
-abbrev pub Fair : Type 0
-Fair =
-    (table : List ℕ) (team : Team) (last turns i p : ℕ) → p < processesIn (team .roll)
-    → i + processesIn (team .roll) ≤ length (chosenIn table team last turns)
-    → RunsThrough table p (afterTurns table team (take i (chosenIn table team last turns)))
-    (take (processesIn (team .roll)) (drop i (chosenIn table team last turns)))
+-- p runs before each turn of a list, and none of them would be refused
+unfoldable pub StaysRunning : List ℕ → ℕ → Team → List ℕ → Type 0
+StaysRunning table p team [] = Unit {0}
+StaysRunning table p team (q ∷ turns) =
+    (statusAt (team .roll) p ≡ running) × (stepVerdict table (team .state) (team .roll) q ≡ Accepted)
+    × StaysRunning table p (afterTurn table team q) turns
+
+-- 2: "A bank that stays running is served within as many turns as there are banks, if so many are left and none of them would be
+-- refused": at any point of a call whose questions hold, after i turns made
+abbrev pub FairlyServed : Type 0
+FairlyServed =
+    (table : List ℕ) (team : Team) (last turns i p : ℕ) → teamVerdict table (team .state) (team .roll) last ≡ Accepted
+    → p < processesIn (team .roll) → i ≤ length (chosenIn table team last turns) → i + processesIn (team .roll) ≤ turns
+    → StaysRunning table p (afterTurns table team (take i (chosenIn table team last turns)))
+    (nextTurns table (processesIn (team .roll)) (lastOf last (take i (chosenIn table team last turns)))
+    (afterTurns table team (take i (chosenIn table team last turns))))
     → Occurs p (take (processesIn (team .roll)) (drop i (chosenIn table team last turns)))
 
 -- 3: from a start that was taken, on any table and after any turns, a call is refused for a last process that the team lacks,

@@ -19,7 +19,8 @@ formerWords = 256
 unfoldable pub formerlyChecked : List ℕ → List ℕ → Verdict
 formerlyChecked table scratch = ask 1 (leb formerWords (length scratch)) then wellFormed table then judged (decode table)
 
--- "Every table gets the same answer as with 256 words."
+-- "Every table gets the same answer as with 256 words." Both sides put today's questions 2 to 17 and 26, so this is a claim about
+-- question 1 alone. `AnyScratch` says more: what a checker keeps in the scratch plays no part in its answer.
 abbrev pub SameAsWith256 : Type 0
 SameAsWith256 =
     (table scratch : List ℕ) → formerWords ≤ length scratch → checked table scratch ≡ formerlyChecked table scratch

@@ -15,7 +15,7 @@ use Rattle.rules.specs.declared.Refusal.{Refusal}
 use Rattle.rules.specs.declared.Stepped.{Stepped}
 use Rattle.rules.specs.declared.Stepped.the-variants.{Taken, Refused}
 use Rattle.rules.specs.Arrivals.{running, waiting, arrivalSize, runningRecord, endedRecord}
-use Rattle.rules.specs.Arrivals.{statusAt, arrivalNode, arrivalValue, arrivalSource, allAtOneNode}
+use Rattle.rules.specs.Arrivals.{statusAt, arrivalNode, arrivalValue, arrivalSource, SameRecord, allAtOneNode}
 use Rattle.rules.specs.Collective.{arrivalOf, received, completedState, releasedRoll}
 use Rattle.rules.specs.Process.{stackPlaces, processWords, processAt, withProcess, environment, depth, top, popped}
 use Rattle.rules.specs.Step.{Outcome, stackFits, fieldsZero, lackedZero, waitFits, leaveFits, recordFits, processFits}
@@ -23,7 +23,7 @@ use Rattle.rules.specs.Step.{completed, stepRunning, stepTaken}
 use Rattle.rules.specs.Table.{Program, decode, Collective, barrier, broadcast, exchange, collective, nodes, statementAt, isLeave}
 use Rattle.rules.specs.WellFormed.{isStatement}
 use Rattle.rules.proofs.AnswerLaws.{both-left, both-right, both-true}
-use Rattle.rules.proofs.ArrivalLaws.{RecordIs, SameRecord, with-arrival-length, with-arrival-same, with-arrival-other}
+use Rattle.rules.proofs.ArrivalLaws.{RecordIs, with-arrival-length, with-arrival-same, with-arrival-other}
 use Rattle.rules.proofs.ArrivalLaws.{each-arrival-length}
 use Rattle.rules.proofs.ChoiceLaws.{bool-cases, first-none, all-true, all-at}
 use Rattle.rules.proofs.CollectiveLaws.{completed-length, completed-at}
@@ -33,6 +33,7 @@ use Rattle.loops.proofs.BuiltLaws.{no-leave-at}
 use Rattle.rules.proofs.Formed.{Formed, formed, statement-past}
 use Rattle.rules.proofs.HomeLaws.{stores-low}
 use Rattle.rules.proofs.Completion.{released-is, released-apart}
+use Rattle.rules.proofs.MoveLaws.{running-record}
 use Rattle.rules.proofs.ProcessLaws.{process-length, with-process-length, with-process-same, with-process-other}
 use Rattle.rules.proofs.StackLaws.{entry, top-entry, advanced-length, received-length, received-depth, received-entry}
 use Rattle.rules.proofs.Standing.{Standing, runs as stands-running, waits, ends, arrival-brought, broughtRecord, standing-fits}
@@ -58,26 +59,6 @@ fits-same : (program : Program) (state roll other : List ℕ) (q : ℕ) → Same
 unfolding processFits recordFits fieldsZero waitFits
 fits-same program state roll other q same =
     rw (same .status, same .node, same .value, same .source, fun-ext (lacked-same roll other q same))
-
--- a running process's record
-running-record : (table words roll : List ℕ) (p : ℕ) → statusAt roll p ≡ running → recordFits (decode table) words roll p ≡ true
-    → RecordIs roll p runningRecord
-unfolding recordFits fieldsZero
-running-record table words roll p runs fit =
-    let node = eqb (arrivalNode roll p) 0 in
-    let value = eqb (arrivalValue roll p) 0 in
-    let source = eqb (arrivalSource roll p) 0 in
-    let held = not (eqb (depth words) 0) in
-    let all : (held && (node && value && source) && leaveFits (decode table) words) ≡ true =
-    rw (eq-eqb (statusAt roll p) running runs) at fit in
-    let zero = both-right held (node && value && source) (both-left (held && (node && value && source)) (leaveFits (decode table) words) all) in
-    let front = both-left (node && value) source zero in
-    record {
-      status = runs;
-      node = eqb-true (arrivalNode roll p) 0 (both-left node value front);
-      value = eqb-true (arrivalValue roll p) 0 (both-right node value front);
-      source = eqb-true (arrivalSource roll p) 0 (both-right (node && value) source zero);
-    }
 
 -- what is left to ask, by an answer
 abbrev pub LeftOf : Stepped → Program → List ℕ → List ℕ → ℕ → ℕ → Type 0

@@ -1,0 +1,2 @@
+// Closed cases of the rules beyond those that the paper marks, as theorems in specs/. No code, and no must-fail edit: nothing here is
+// checked again when an edit is tried.
