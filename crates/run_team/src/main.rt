@@ -1,15 +1,19 @@
 // Reads a word L, L table bytes, a word for the number of banks, the start words and a byte a turn on standard input, and
 // prints what each turn did.
 ghost use mathlib.Core.Path.{_≡_};
-ghost use Prim.Native.Nat.{_+_, _*_, _≤_};
+ghost use Prim.Native.Nat.{_*_, _/_};
 ghost use lib.ListN.{length};
-ghost use Rattle.rules.specs.Evaluation.{doors};
-ghost use Rattle.rules.specs.Process.{variablePlaces, processWords, mostProcesses};
+ghost use Rattle.rules.specs.declared.Verdict.the-variants.{Accepted};
+ghost use Rattle.rules.specs.Input.{mostInputBytes, question25, runBehind};
+ghost use Rattle.rules.specs.Process.{processWords, mostProcesses};
 use input::INPUT_BYTES;
-use input::lesser;
-use input::read_words;
-use input::start_words;
-use input::table_end;
+use input::INPUT_WORDS;
+use input::RUN_BEHIND;
+use input::asked;
+use input::run_words;
+use input::table_bytes;
+use input::turns;
+use input::word_behind;
 use libc::STDIN_FILENO;
 use rules::Arrival;
 use rules::Status;
@@ -17,9 +21,8 @@ use rules::Stepped;
 use rules::Verdict;
 use rules::layout::MOST_PROCESSES;
 use rules::layout::PROCESS_WORDS;
-use rules::layout::START_WORDS;
 use rules::layout::STATE_WORDS;
-use table::words::word;
+use rules::layout::lesser;
 
 // Answers whether the run goes on.
 fn report_step(bank: u32, stepped: Stepped) -> bool {
@@ -60,22 +63,22 @@ fn take_turns(
     }
 }
 
-// `given` holds the start words and the turns. Start words cut short are too few, which the start refuses with 19.
-fn run_lent(table: &[u8], processes: u32, given: &[u8], words: &mut [u32], state: &mut [u32])
-    requires { ⌜ (length (now words) ≡ (variablePlaces + doors) * mostProcesses)
+// An input that passed question 25. The start asks the other questions: `RunStarts` in rules/specs/Input.antt.
+fn run_lent(input: &[u8], words: &mut [u32], state: &mut [u32])
+    requires { ⌜ (question25 runBehind (now input) ≡ Accepted) × (length (now words) ≡ mostInputBytes / 4)
         × (length (now state) ≡ processWords * mostProcesses) ⌝ }
 {
+    let table = table_bytes(input);
+    let processes = word_behind(input, 0);
+    let taken = run_words(input, words);
     let count = lesser(processes as usize, MOST_PROCESSES);
-    let taken = lesser(start_words(table, count), given.len() / 4);
     let state_end = PROCESS_WORDS * count;
-    let turns_at = 4 * taken;
     let running = Arrival {
         status: Status::Running,
         node: 0,
         value: 0,
         source: 0,
     };
-    read_words(given, &mut words[..taken]);
     let after = records::start_on(
         table,
         processes,
@@ -87,38 +90,27 @@ fn run_lent(table: &[u8], processes: u32, given: &[u8], words: &mut [u32], state
     let answer = after.answer;
     let roll = after.roll;
     match answer {
-        Verdict::Accepted => take_turns(
-            table,
-            &mut state[..state_end],
-            roll,
-            count,
-            &given[turns_at..],
-        ),
+        Verdict::Accepted => {
+            take_turns(table, &mut state[..state_end], roll, count, turns(input))
+        }
         Verdict::Refused(refusal) => report::refusal(refusal),
     }
 }
 
-fn run_table(table: &[u8], processes: u32, given: &[u8]) {
-    let mut words = [0u32; START_WORDS];
-    let mut state = [0u32; STATE_WORDS];
-    run_lent(table, processes, given, &mut words, &mut state);
-}
-
-// An input whose table's bytes end there.
-fn run_parts(input: &[u8], end: usize)
-    requires { ⌜ (4 ≤ end) × (end + 4 ≤ length (now input)) ⌝ }
+fn run_input(input: &[u8])
+    requires { ⌜ question25 runBehind (now input) ≡ Accepted ⌝ }
 {
-    let given_at = end + 4;
-    let processes = word(&input[end..given_at], 0);
-    run_table(&input[4..end], processes, &input[given_at..]);
+    let mut words = [0u32; INPUT_WORDS];
+    let mut state = [0u32; STATE_WORDS];
+    run_lent(input, &mut words, &mut state);
 }
 
 fn run(input: &[u8]) {
-    let end = table_end(input, 4);
-    if end == 0 {
-        return report::input_refused();
+    let verdict = asked(input, RUN_BEHIND);
+    match verdict {
+        Verdict::Accepted => run_input(input),
+        Verdict::Refused(refusal) => report::refusal(refusal),
     }
-    run_parts(input, end);
 }
 
 fn main() {

@@ -1,19 +1,26 @@
--- `run_team::run` is safe: where the table's end is found, all the parts are there.
+-- `run_team::run` is safe: the run goes on where question 25 was passed.
+use mathlib.Core.Path.{sym, _∙_}
 use borrow.Author.Needs.{needs}
 use Rattle.run_team.proofs.run.Statement.{statement}
 use Rattle.run_team.proofs.run.Tie as tie
 
-table-end-requires : tie.Need-table-end-requires
-table-end-requires c κs = search needs
+asked-requires : tie.Need-asked-requires
+asked-requires c κs = search needs
 
-input-refused-requires : tie.Need-input-refused-requires
-input-refused-requires c κs = search needs
+enum-told : tie.Need-enum-told
+enum-told c = search needs
+
+run-input-requires : tie.Need-run-input-requires
+run-input-requires c κs = sym (c .before .before .asked .ensures) ∙ c .enum-told .given .1
+
+enum-known-verdict : tie.Need-enum-known-verdict
+enum-known-verdict c = search needs
+
+refusal-requires : tie.Need-refusal-requires
+refusal-requires c κs = search needs
 
 returns : tie.Need-returns
 returns c = search needs
-
-run-parts-requires : tie.Need-run-parts-requires
-run-parts-requires c κs = c .before .table-end .ensures (c .if1 .left)
 
 returns-2 : tie.Need-returns-2
 returns-2 c = search needs
@@ -21,4 +28,11 @@ returns-2 c = search needs
 pub run-spec : {M : Type 1} → statement M
 run-spec =
     tie.close
-    (tie.spec table-end-requires input-refused-requires returns run-parts-requires returns-2)
+    (tie.spec
+    asked-requires
+    enum-told
+    run-input-requires
+    enum-known-verdict
+    refusal-requires
+    returns
+    returns-2)

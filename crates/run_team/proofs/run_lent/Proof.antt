@@ -5,29 +5,23 @@ use borrow.Author.Needs.{needs}
 use Rattle.run_team.proofs.run_lent.Statement.{statement}
 use Rattle.run_team.proofs.run_lent.Tie as tie
 
+table-bytes-requires : tie.Need-table-bytes-requires
+table-bytes-requires c κs = search needs
+
+word-behind-requires : tie.Need-word-behind-requires
+word-behind-requires c κs = search needs
+
+run-words-requires : tie.Need-run-words-requires
+run-words-requires c κs = search needs
+
+cast-lesser : tie.Need-cast-lesser
+cast-lesser c = search needs
+
 lesser-requires : tie.Need-lesser-requires
 lesser-requires c κs = search needs
 
-start-words-requires : tie.Need-start-words-requires
-start-words-requires c κs = search needs
-
-lesser-requires-2 : tie.Need-lesser-requires-2
-lesser-requires-2 c κs = search needs
-
 mul-state-end : tie.Need-mul-state-end
 mul-state-end c = search needs
-
-mul-turns-at : tie.Need-mul-turns-at
-mul-turns-at c = search needs
-
-slice-relend-prefix-read-words : tie.Need-slice-relend-prefix-read-words
-slice-relend-prefix-read-words c = search needs
-
-slice-aggregate-read-words : tie.Need-slice-aggregate-read-words
-slice-aggregate-read-words c = simp length-take (omega arith)
-
-read-words-requires : tie.Need-read-words-requires
-read-words-requires c κs = simp length-take (omega arith)
 
 slice-reshare-prefix-start-on : tie.Need-slice-reshare-prefix-start-on
 slice-reshare-prefix-start-on c = search needs
@@ -53,14 +47,8 @@ slice-relend-prefix-take-turns c = search needs
 slice-aggregate-take-turns : tie.Need-slice-aggregate-take-turns
 slice-aggregate-take-turns c = simp length-take (omega arith)
 
-sub-take-turns : tie.Need-sub-take-turns
-sub-take-turns c = search needs
-
-part-take-turns-start : tie.Need-part-take-turns-start
-part-take-turns-start c = search needs
-
-part-take-turns-end : tie.Need-part-take-turns-end
-part-take-turns-end c = search needs
+turns-requires : tie.Need-turns-requires
+turns-requires c κs = search needs
 
 take-turns-requires : tie.Need-take-turns-requires
 take-turns-requires c κs = search needs
@@ -93,14 +81,12 @@ pub run-lent-spec : {M : Type 1} → statement M
 run-lent-spec =
     tie.close
     (tie.spec
+    table-bytes-requires
+    word-behind-requires
+    run-words-requires
+    cast-lesser
     lesser-requires
-    start-words-requires
-    lesser-requires-2
     mul-state-end
-    mul-turns-at
-    slice-relend-prefix-read-words
-    slice-aggregate-read-words
-    read-words-requires
     slice-reshare-prefix-start-on
     slice-aggregate-start-on
     slice-relend-prefix-start-on
@@ -109,9 +95,7 @@ run-lent-spec =
     enum-told
     slice-relend-prefix-take-turns
     slice-aggregate-take-turns
-    sub-take-turns
-    part-take-turns-start
-    part-take-turns-end
+    turns-requires
     take-turns-requires
     enum-known-answer
     refusal-requires

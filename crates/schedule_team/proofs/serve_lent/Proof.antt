@@ -5,29 +5,26 @@ use borrow.Author.Needs.{needs}
 use Rattle.schedule_team.proofs.serve_lent.Statement.{statement}
 use Rattle.schedule_team.proofs.serve_lent.Tie as tie
 
+table-bytes-requires : tie.Need-table-bytes-requires
+table-bytes-requires c κs = search needs
+
+word-behind-requires : tie.Need-word-behind-requires
+word-behind-requires c κs = search needs
+
+serve-words-requires : tie.Need-serve-words-requires
+serve-words-requires c κs = search needs
+
 cast-lesser : tie.Need-cast-lesser
 cast-lesser c = search needs
 
 lesser-requires : tie.Need-lesser-requires
 lesser-requires c κs = search needs
 
-exact-words-requires : tie.Need-exact-words-requires
-exact-words-requires c κs = search needs
-
 mul-state-end : tie.Need-mul-state-end
 mul-state-end c = search needs
 
 mul-roll-end : tie.Need-mul-roll-end
 mul-roll-end c = search needs
-
-slice-relend-prefix-read-words : tie.Need-slice-relend-prefix-read-words
-slice-relend-prefix-read-words c = search needs
-
-slice-aggregate-read-words : tie.Need-slice-aggregate-read-words
-slice-aggregate-read-words c = simp length-take (omega arith)
-
-read-words-requires : tie.Need-read-words-requires
-read-words-requires c κs = simp length-take (omega arith)
 
 slice-reshare-prefix-start : tie.Need-slice-reshare-prefix-start
 slice-reshare-prefix-start c = search needs
@@ -102,14 +99,13 @@ pub serve-lent-spec : {M : Type 1} → statement M
 serve-lent-spec =
     tie.close
     (tie.spec
+    table-bytes-requires
+    word-behind-requires
+    serve-words-requires
     cast-lesser
     lesser-requires
-    exact-words-requires
     mul-state-end
     mul-roll-end
-    slice-relend-prefix-read-words
-    slice-aggregate-read-words
-    read-words-requires
     slice-reshare-prefix-start
     slice-aggregate-start
     slice-relend-prefix-start

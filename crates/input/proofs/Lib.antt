@@ -1,0 +1,2 @@
+-- Laws of the parts of some bytes.
+pub mod PartLaws
