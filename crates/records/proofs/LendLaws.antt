@@ -1,26 +1,18 @@
 -- Laws of the words that a call lends the core: how they are loaded, and what is saved of them.
 use mathlib.Core.List.{List, _++_}
 use mathlib.Core.Path.{_≡_, refl, ap, sym, _∙_, subst}
-use Prim.Native.Nat.{ℕ, zero, suc, _+_, _-_, _*_, _≤_, _<_, _^_}
+use Prim.Native.Nat.{ℕ, zero, suc, _+_, _-_, _*_, _≤_, _<_, _^_, min}
 use native.Mathlib.Decide.{decLt}
 use native.Mathlib.Numerals.{add-one}
 use native.Mathlib.Omega.{arith}
 use borrow.Table.Elements.{same-len}
-use borrow.Author.Tests.{lt-ltb, le-ltb}
 use lib.ListN.{length, getD, set, take, drop, replicate, length-set, drop-of-length-le}
 use lib.Seq.{set-at, take-at, drop-at, take-suc, take-all, append-snoc, length-take-le, getD-set-same, getD-set-other, getD-take, ext-getD}
 use Rattle.rules.specs.declared.Arrival.{Arrival}
 use Rattle.rules.specs.Arrivals.{arrivalSize, runningRecord, withArrival}
 use Rattle.collectives.specs.Given.{arrivalAt}
-use Rattle.records.specs.Roll.{mostLent, lentWords, atMost, rollWords, lentRecords, loaded, saved}
+use Rattle.records.specs.Roll.{mostLent, lentWords, rollWords, lentRecords, loaded, saved}
 use Rattle.records.proofs.RollLaws.{words-length, words-append, words-set, words-at}
-
-pub most-within : (n limit : ℕ) → atMost n limit ≤ limit
-most-within n limit = elim (decLt n limit) [ yes l ↦ simp (lt-ltb n limit l) (omega arith) | no m ↦ simp (le-ltb n limit (omega arith)) (omega arith) ]
-
-most-there : (n limit : ℕ) → atMost n limit ≤ n
-most-there n limit = elim (decLt n limit)
-    [ yes l ↦ simp (lt-ltb n limit l) (omega arith) | no m ↦ simp (le-ltb n limit (omega arith)) (omega arith) ]
 
 -- record p of those lent of n: it is there, and the machine has its number, its place in bytes and the number after it
 pub record Lent (n p : ℕ) : Type 0 where
@@ -32,50 +24,51 @@ pub record Lent (n p : ℕ) : Type 0 where
 
 pub lent : (n p : ℕ) → p < lentRecords n → Lent n p
 lent n p less =
-    let there : p < n = omega (arith, most-there n mostLent) in
-    let few : p < mostLent = omega (arith, most-within n mostLent) in
+    let there : p < n = omega arith in
+    let few : p < mostLent = omega arith in
     record { within = there; few = few; fits = omega arith; byte-fits = omega arith; next-fits = omega arith }
 
 -- as much of a list of the limit's length
-take-most : (n limit : ℕ) (xs : List Arrival) → length xs ≡ limit → take (atMost n limit) xs ≡ take n xs
+take-most : (n limit : ℕ) (xs : List Arrival) → length xs ≡ limit → take (min n limit) xs ≡ take n xs
 take-most n limit xs e =
     elim (decLt n limit) [
-      | yes l ↦ simp (lt-ltb n limit l)
-      | no m ↦ simp (le-ltb n limit (omega arith), take-all limit xs (omega (arith, e)), take-all n xs (omega (arith, e)))
+      | yes l ↦ let least : min n limit ≡ n = omega arith in rw least
+      | no m ↦
+          let least : min n limit ≡ limit = omega arith in
+          rw (least, take-all limit xs (omega (arith, e)), take-all n xs (omega (arith, e)))
     ]
 
-drop-most : (n limit : ℕ) (xs : List Arrival) → length xs ≡ limit → drop (atMost n limit) xs ≡ drop n xs
+drop-most : (n limit : ℕ) (xs : List Arrival) → length xs ≡ limit → drop (min n limit) xs ≡ drop n xs
 drop-most n limit xs e =
     elim (decLt n limit) [
-      | yes l ↦ simp (lt-ltb n limit l)
+      | yes l ↦ let least : min n limit ≡ n = omega arith in rw least
       | no m ↦
-          let short : length xs ≤ limit = omega (arith, e) in
-          let shorter : length xs ≤ n = omega (arith, e) in
-          simp (le-ltb n limit (omega arith), drop-of-length-le xs short, drop-of-length-le xs shorter)
+          let least : min n limit ≡ limit = omega arith in
+          rw (least, drop-of-length-le xs {i = limit} (omega (arith, e)), drop-of-length-le xs {i = n} (omega (arith, e)))
     ]
 
-pub most-length : (n limit : ℕ) (xs : List Arrival) → length xs ≡ limit → length (take (atMost n limit) xs) ≡ atMost n limit
-most-length n limit xs e = length-take-le (atMost n limit) xs (omega (arith, e, most-within n limit))
+pub most-length : (n limit : ℕ) (xs : List Arrival) → length xs ≡ limit → length (take (min n limit) xs) ≡ min n limit
+most-length n limit xs e = length-take-le (min n limit) xs (omega (arith, e))
 
 -- a list whose first elements were replaced: those, and the others
-module _ (n limit : ℕ) (xs ys : List Arrival) (sized : length xs ≡ limit) (same : length ys ≡ length (take (atMost n limit) xs)) where
-  replaced-length : length (ys ++ drop (atMost n limit) xs) ≡ limit
-  replaced-length = same-len (atMost n limit) xs ys same ∙ sized
+module _ (n limit : ℕ) (xs ys : List Arrival) (sized : length xs ≡ limit) (same : length ys ≡ length (take (min n limit) xs)) where
+  replaced-length : length (ys ++ drop (min n limit) xs) ≡ limit
+  replaced-length = same-len (min n limit) xs ys same ∙ sized
 
-  at-seam : length ys ≡ atMost n limit
+  at-seam : length ys ≡ min n limit
   at-seam = same ∙ most-length n limit xs sized
 
-  replaced-take : take n (ys ++ drop (atMost n limit) xs) ≡ ys
-  replaced-take = sym (take-most n limit (ys ++ drop (atMost n limit) xs) replaced-length) ∙ take-at ys (drop (atMost n limit) xs) (atMost n limit) at-seam
+  replaced-take : take n (ys ++ drop (min n limit) xs) ≡ ys
+  replaced-take = sym (take-most n limit (ys ++ drop (min n limit) xs) replaced-length) ∙ take-at ys (drop (min n limit) xs) (min n limit) at-seam
 
   -- what is said of the first elements before and after is said of as many of the whole lists, and the others stay
-  pub replaced : (Said : List Arrival → List Arrival → Type 0) → Said (take (atMost n limit) xs) ys
-      → Said (take n xs) (take n (ys ++ drop (atMost n limit) xs)) × (drop n (ys ++ drop (atMost n limit) xs) ≡ drop n xs)
+  pub replaced : (Said : List Arrival → List Arrival → Type 0) → Said (take (min n limit) xs) ys
+      → Said (take n xs) (take n (ys ++ drop (min n limit) xs)) × (drop n (ys ++ drop (min n limit) xs) ≡ drop n xs)
   replaced Said said = (
-    subst (λ l. Said l (take n (ys ++ drop (atMost n limit) xs))) (take-most n limit xs sized)
-        (subst (Said (take (atMost n limit) xs)) (sym replaced-take) said),
-    sym (drop-most n limit (ys ++ drop (atMost n limit) xs) replaced-length)
-        ∙ drop-at ys (drop (atMost n limit) xs) (atMost n limit) at-seam
+    subst (λ l. Said l (take n (ys ++ drop (min n limit) xs))) (take-most n limit xs sized)
+        (subst (Said (take (min n limit) xs)) (sym replaced-take) said),
+    sym (drop-most n limit (ys ++ drop (min n limit) xs) replaced-length)
+        ∙ drop-at ys (drop (min n limit) xs) (min n limit) at-seam
         ∙ drop-most n limit xs sized,
   )
 

@@ -1,6 +1,8 @@
 -- The laws that the proofs of this crate share.
 pub mod Words
 pub mod Walk
+pub mod Steps
+pub mod Counting
 pub mod RollLaws
 pub mod LendLaws
 pub mod Recorded
@@ -9,4 +11,3 @@ pub mod Rows
 pub mod Calls
 pub mod Lent
 pub mod RollCalls
-pub mod CoreLaws

@@ -5,7 +5,7 @@ use mathlib.Core.Path.{_≡_, refl, ap, sym, _∙_, subst}
 use Prim.Native.Nat.{ℕ, zero, suc, _+_, _*_, _≤_, _<_}
 use native.Mathlib.Decide.{decLt}
 use native.Mathlib.Omega.{arith}
-use borrow.Author.Tests.{lt-ltb, le-ltb, lt-leb, ne-eqb}
+use borrow.Author.Tests.{lt-leb, ne-eqb}
 use lib.ListN.{length, set, take, drop, length-set}
 use lib.Seq.{take-all, length-take-le}
 use Rattle.rules.specs.declared.Arrival.{Arrival}
@@ -16,6 +16,7 @@ use Rattle.rules.specs.Answers.{_then_, refused}
 use Rattle.rules.specs.Arrivals.{arrivalSize, withArrival, eachArrival}
 use Rattle.rules.specs.Start.{question21}
 use Rattle.rules.specs.Process.{mostProcesses}
+use Rattle.records.specs.Held.{OnLent}
 use Rattle.records.specs.Roll.{mostLent, lentWords, rollWords, lentRecords, loaded, saved}
 use Rattle.records.proofs.RollLaws.{words-length, words-set}
 use Rattle.records.proofs.LendLaws.{loaded-words, saved-words, saved-same}
@@ -47,60 +48,56 @@ pub then-refused : (v w : Verdict) → (r : Refusal) × (w ≡ Refused r) → (r
 then-refused Accepted w h = h
 then-refused (Refused r) w h = (r, refl)
 
--- What a call answers, and leaves of state and roll, as a function of the roll lent.
-pub record Call {X : Type 0} (answer : List ℕ → X) (state roll : List ℕ → List ℕ) : Type 0 where
-  pub alike : (r q : List ℕ) → arrivalSize * mostProcesses < length r → arrivalSize * mostProcesses < length q → (answer r ≡ answer q) × (state r ≡ state q)
-  pub kept : (r : List ℕ) → arrivalSize * mostProcesses < length r → roll r ≡ r
-  pub recorded : (n : ℕ) (r : List ℕ) → Recorded n r → Recorded n (roll r)
+-- what the core says of the words of k records, which are lent to it, is said of the array that holds them
+pub on-lent : (Says : List ℕ → List ℕ → Type 0) (lent after : List ℕ) (k n : ℕ) → k ≡ n → Says (take (arrivalSize * k) lent) after
+    → OnLent Says n lent (after ++ drop (arrivalSize * k) lent)
+on-lent Says lent after k n e said =
+    subst (λ (m : ℕ). OnLent Says m lent (after ++ drop (arrivalSize * k) lent)) e (record { after = after; said = said; left = refl })
 
--- Such a call on the words lent is one on the words of the records: what is saved of the words that it leaves are the records that the call leaves.
-abbrev pub Through : {X : Type 0} → (List ℕ → X) → (List ℕ → List ℕ) → (List ℕ → List ℕ) → List Arrival → List ℕ → ℕ → Type 0
-Through answer state roll records lent n =
-    (answer (take (arrivalSize * n) lent) ≡ answer (rollWords records))
-    × ((state (take (arrivalSize * n) lent) ≡ state (rollWords records))
-    × (rollWords (saved (roll (take (arrivalSize * n) lent) ++ drop (arrivalSize * n) lent) n records) ≡ roll (rollWords records)))
+-- What is said of a call, whatever it answers and leaves of the state: `Says before after` of the roll lent and as it is left.
+pub record Call (Says : List ℕ → List ℕ → Type 0) : Type 0 where
+  pub long : (before after : List ℕ) → arrivalSize * mostProcesses < length before → Says before after
+      → (after ≡ before) × ((other : List ℕ) → arrivalSize * mostProcesses < length other → Says other other)
+  pub recorded : (n : ℕ) (before after : List ℕ) → Recorded n before → Says before after → Recorded n after
 
-module _ {X : Type 0} (answer : List ℕ → X) (state roll : List ℕ → List ℕ) (call : Call answer state roll) (records : List Arrival) where
-  few : (n : ℕ) → n ≡ length records → Through answer state roll records (loaded records n) n
+-- Such a call on the words lent is one on the words of the records: what is saved of the words that it leaves are the records that
+-- the call leaves.
+module _ (Says : List ℕ → List ℕ → Type 0) (call : Call Says) (records : List Arrival) (words : List ℕ) where
+  few : (n : ℕ) → n ≡ length records → OnLent Says n (loaded records n) words → Says (rollWords records) (rollWords (saved words n records))
   unfolding Recorded
-  few n e =
-      let words : take (arrivalSize * n) (loaded records n) ≡ rollWords records
+  few n e on =
+      let whole : take (arrivalSize * n) (loaded records n) ≡ rollWords records
       = loaded-words records n (omega (arith, e)) ∙ ap rollWords (take-all n records (omega (arith, e))) in
-      let after : Recorded n (roll (rollWords records)) = call .recorded n (rollWords records) (records, (sym e, refl)) in
-      let rest : List ℕ = drop (arrivalSize * n) (loaded records n) in (
-        ap answer words,
-        (
-          ap state words,
-          ap (λ (w : List ℕ). rollWords (saved (roll w ++ rest) n records)) words
-              ∙ ap (λ (w : List ℕ). rollWords (saved (w ++ rest) n records)) (after .1 .1)
-              ∙ ap rollWords (saved-words (after .0) records rest n (after .1 .0) e)
-              ∙ sym (after .1 .1),
-        ),
-      )
+      let said′ : Says (rollWords records) (on .after) = subst (λ (w : List ℕ). Says w (on .after)) whole (on .said) in
+      let new : Recorded n (on .after) = call .recorded n (rollWords records) (on .after) (records, (sym e, refl)) said′ in
+      let rest : List ℕ = drop (arrivalSize * n) (loaded records n) in
+      subst (Says (rollWords records))
+      (new .1 .1
+      ∙ sym (ap (λ (w : List ℕ). rollWords (saved w n records)) (on .left ∙ ap (λ (w : List ℕ). w ++ rest) (new .1 .1))
+      ∙ ap rollWords (saved-words (new .0) records rest n (new .1 .0) e))) said′
 
-  many : mostLent ≤ length records → Through answer state roll records (loaded records mostLent) mostLent
-  many l =
-      let words : take lentWords (loaded records mostLent) ≡ rollWords (take mostLent records) = loaded-words records mostLent l in
-      let short : arrivalSize * mostProcesses < length (rollWords (take mostLent records)) = omega (arith, words-length (take mostLent records), length-take-le mostLent records l) in
+  many : mostLent ≤ length records → OnLent Says mostLent (loaded records mostLent) words
+      → Says (rollWords records) (rollWords (saved words mostLent records))
+  many l on =
+      let first : take lentWords (loaded records mostLent) ≡ rollWords (take mostLent records) = loaded-words records mostLent l in
+      let short : arrivalSize * mostProcesses < length (take lentWords (loaded records mostLent))
+      = omega (arith, ap length first, words-length (take mostLent records), length-take-le mostLent records l) in
       let long : arrivalSize * mostProcesses < length (rollWords records) = omega (arith, words-length records, l) in
-      let rest : List ℕ = drop lentWords (loaded records mostLent) in (
-        ap answer words ∙ call .alike (rollWords (take mostLent records)) (rollWords records) short long .0,
-        (
-          ap state words ∙ call .alike (rollWords (take mostLent records)) (rollWords records) short long .1,
-          ap (λ (w : List ℕ). rollWords (saved (roll w ++ rest) mostLent records)) words
-              ∙ ap (λ (w : List ℕ). rollWords (saved (w ++ rest) mostLent records)) (call .kept (rollWords (take mostLent records)) short)
-              ∙ ap rollWords (saved-same records rest mostLent l)
-              ∙ sym (call .kept (rollWords records) long),
-        ),
-      )
+      let rest : List ℕ = drop lentWords (loaded records mostLent) in
+      let kept = call .long (take lentWords (loaded records mostLent)) (on .after) short (on .said) in
+      subst (Says (rollWords records))
+      (sym (ap (λ (w : List ℕ). rollWords (saved w mostLent records)) (on .left ∙ ap (λ (w : List ℕ). w ++ rest) (kept .0 ∙ first))
+      ∙ ap rollWords (saved-same records rest mostLent l))) (kept .1 (rollWords records) long)
 
-  pub through : Through answer state roll records (loaded records (lentRecords (length records))) (lentRecords (length records))
-  through =
+  pub through : OnLent Says (lentRecords (length records)) (loaded records (lentRecords (length records))) words
+      → Says (rollWords records) (rollWords (saved words (lentRecords (length records)) records))
+  through said =
       elim (decLt (length records) mostLent) [
         | yes l ↦
-            let e : lentRecords (length records) ≡ length records = simp (lt-ltb (length records) mostLent l) in
-            few (lentRecords (length records)) e
+            let e : lentRecords (length records) ≡ length records = omega arith in
+            few (lentRecords (length records)) e said
         | no m ↦
-            let e : lentRecords (length records) ≡ mostLent = simp (le-ltb (length records) mostLent (omega arith)) in
-            subst (λ (n : ℕ). Through answer state roll records (loaded records n) n) (sym e) (many (omega arith))
+            let e : lentRecords (length records) ≡ mostLent = omega arith in
+            subst (λ (n : ℕ). OnLent Says n (loaded records n) words → Says (rollWords records) (rollWords (saved words n records)))
+            (sym e) (many (omega arith)) said
       ]

@@ -1,5 +1,5 @@
--- The laws of the types that the walks move by value: the words that are lent, a record, the records of a team, and the answers of a start
--- and a step, each with the words lent as it leaves them.
+-- The laws of the types that the walks move by value: the words that are lent, a record, the records of a team, and the answers of a
+-- start, a step and a call that serves, each with the words lent as it leaves them.
 use mathlib.Core.Path.{refl, _≡_, ap, subst}
 use mathlib.Core.List.{List, [], _∷_, map}
 use Prim.Native.Nat.{ℕ, zero, suc}
@@ -32,6 +32,12 @@ use Rattle.rules.proofs.Stepped as P′
 use Rattle.rules.proofs.Stepped.Laws as PL
 use Rattle.records.specs.declared.StartAnswer.{StartAnswer}
 use Rattle.records.specs.declared.StepAnswer.{StepAnswer}
+use Rattle.records.specs.declared.ServeAnswer.{ServeAnswer}
+use Rattle.scheduler.specs.declared.Service.{Service}
+use Rattle.scheduler.proofs.Service as O′
+use Rattle.scheduler.proofs.Service.Laws as OL
+use Rattle.records.proofs.ServeAnswer as U′
+use Rattle.records.proofs.ServeAnswer.Laws as UL
 use Rattle.records.proofs.StepAnswer as A′
 use Rattle.records.proofs.StepAnswer.Laws as AL
 use Rattle.records.proofs.StartAnswer as S′
@@ -85,23 +91,30 @@ map-same (x ∷ l) = ap (λ (t : List ℕ). x ∷ t) (map-same l)
 words-back : (l : List ℕ) → Is Words (map (λ x. x) l) (wordsVal (map (λ x. x) l) ∷ []) → Is Words l (wordsVal l ∷ [])
 words-back l = subst (λ (l : List ℕ). Is Words l (wordsVal l ∷ [])) (map-same l)
 
-enum-back : (R : RattleType) (val : R .Denot → Val) → Tells R (Is R) (λ a. val a ∷ []) → (a : R .Denot) (v : Val)
+value-back : (R : RattleType) (val : R .Denot → Val) → Tells R (Is R) (λ a. val a ∷ []) → (a : R .Denot) (v : Val)
     → Is R a (v ∷ []) → Is R a (val a ∷ [])
-enum-back R val tells a v is = subst (Is R a) (tells a (v ∷ []) is) is
+value-back R val tells a v is = subst (Is R a) (tells a (v ∷ []) is) is
 
 pub start-words-is : (r : StartAnswer) (v : Val) → Is S′.the-row r (v ∷ []) → Is Words (r .roll) (wordsVal (r .roll) ∷ [])
 start-words-is r v is = words-back (r .roll) (LL.owed S′.the-type SL.the-laws r (v ∷ []) is .1 .0)
 
 pub start-verdict-is : (r : StartAnswer) (v : Val) → Is S′.the-row r (v ∷ []) → Is V′.the-row (r .answer) (VL.lowered (r .answer) ∷ [])
-start-verdict-is r v is = enum-back V′.the-row VL.lowered (VL.lowers .val-is) (r .answer) _
+start-verdict-is r v is = value-back V′.the-row VL.lowered (VL.lowers .val-is) (r .answer) _
     (LL.owed S′.the-type SL.the-laws r (v ∷ []) is .0)
 
 pub step-words-is : (r : StepAnswer) (v : Val) → Is A′.the-row r (v ∷ []) → Is Words (r .roll) (wordsVal (r .roll) ∷ [])
 step-words-is r v is = words-back (r .roll) (LL.owed A′.the-type AL.the-laws r (v ∷ []) is .1 .0)
 
 pub step-stepped-is : (r : StepAnswer) (v : Val) → Is A′.the-row r (v ∷ []) → Is P′.the-row (r .answer) (PL.lowered (r .answer) ∷ [])
-step-stepped-is r v is = enum-back P′.the-row PL.lowered (PL.lowers .val-is) (r .answer) _
+step-stepped-is r v is = value-back P′.the-row PL.lowered (PL.lowers .val-is) (r .answer) _
     (LL.owed A′.the-type AL.the-laws r (v ∷ []) is .0)
+
+pub serve-words-is : (r : ServeAnswer) (v : Val) → Is U′.the-row r (v ∷ []) → Is Words (r .roll) (wordsVal (r .roll) ∷ [])
+serve-words-is r v is = words-back (r .roll) (LL.owed U′.the-type UL.the-laws r (v ∷ []) is .1 .0)
+
+pub serve-service-is : (r : ServeAnswer) (v : Val) → Is U′.the-row r (v ∷ []) → Is O′.the-row (r .answer) (OL.lowered (r .answer) ∷ [])
+serve-service-is r v is = value-back O′.the-row OL.lowered (OL.lowers .val-is) (r .answer) _
+    (LL.owed U′.the-type UL.the-laws r (v ∷ []) is .0)
 
 module _ {M : Type 1} (𝓤 : URA M) (H : Heap 𝓤) (A : Atoms 𝓤) (W : Given 𝓤 H A) where
   pub words-make : Makes 𝓤 H A Words (Is Words)
@@ -139,3 +152,12 @@ module _ {M : Type 1} (𝓤 : URA M) (H : Heap 𝓤) (A : Atoms 𝓤) (W : Given
 
   pub step-typed : (r : StepAnswer) (v : Val) → Is A′.the-row r (v ∷ []) → Holds (hasTy AL.mir v) × WT v
   step-typed r v is = LL.lawful A′.the-type AL.the-laws 𝓤 H A W .typed r (v ∷ []) is .0
+
+  pub service-make : Makes 𝓤 H A O′.the-row (Is O′.the-row)
+  service-make = LL.makes O′.the-type OL.the-plain 𝓤 H A
+
+  pub service-typed : (a : Service) → Is O′.the-row a (OL.lowered a ∷ []) → Holds (hasTy OL.mir (OL.lowered a)) × WT (OL.lowered a)
+  service-typed a is = LL.lawful O′.the-type OL.the-laws 𝓤 H A W .typed a (OL.lowered a ∷ []) is .0
+
+  pub serve-typed : (r : ServeAnswer) (v : Val) → Is U′.the-row r (v ∷ []) → Holds (hasTy UL.mir v) × WT v
+  serve-typed r v is = LL.lawful U′.the-type UL.the-laws 𝓤 H A W .typed r (v ∷ []) is .0

@@ -1,14 +1,16 @@
--- A start and a step are calls on a roll of records: `started` and `stepped` keep the words those of records, and refuse a roll too long for any team.
+-- A start, a step and a call that serves are calls on a roll of records: `started`, `stepped` and `served` keep the words those of
+-- records, and refuse a roll too long for any team.
 use mathlib.Core.Bool.{true, false, cond}
-use mathlib.Core.List.{List}
+use mathlib.Core.List.{List, [], _∷_}
 use mathlib.Core.Logic.{⊎-elim}
-use mathlib.Core.Path.{_≡_, refl, ap, sym, _∙_}
+use mathlib.Core.Path.{_≡_, refl, ap, sym, _∙_, subst}
 use Prim.Native.Nat.{ℕ, _*_, _<_}
 use lib.Dec.{eqb}
 use lib.ListN.{length}
 use Rattle.rules.specs.declared.Refusal.{Refusal}
 use Rattle.rules.specs.declared.Verdict.{Verdict}
 use Rattle.rules.specs.declared.Verdict.the-variants.{Accepted, Refused}
+use Rattle.rules.specs.declared.Stepped.{Stepped}
 use Rattle.rules.specs.declared.Stepped.the-variants.{Refused as NotTaken}
 use Rattle.rules.specs.Answers.{_then_, refused}
 use Rattle.rules.specs.Arrivals.{arrivalSize, running, waiting, runningRecord, endedRecord, withArrival, statusAt, allAtOneNode}
@@ -16,12 +18,19 @@ use Rattle.rules.specs.Collective.{arrivalOf, completedState, releasedRoll}
 use Rattle.rules.specs.Evaluation.{Environment}
 use Rattle.rules.specs.Process.{mostProcesses, environment, processAt, depth, top, advanced}
 use Rattle.rules.proofs.ChoiceLaws.{bool-cases}
-use Rattle.rules.specs.Start.{question18, question19, question20, startVerdict, startRoll, startedBy, started}
+use Rattle.rules.specs.Start.{question18, question19, question20, startVerdict, startRoll, startedBy, Started, started}
 use Rattle.rules.specs.Step.{Outcome, processesIn, question22, question23, question24, teamVerdict, stepVerdict, moved, completed, arrivedAt, stepRunning, stepTaken, steppedBy, stepped}
 use Rattle.rules.specs.Table.{Program, decode}
 use Rattle.rules.specs.Table.{Collective, statementAt}
 use Rattle.rules.specs.WellFormed.{wellFormed}
+use Rattle.rules.specs.Run.{Team, afterTurn, afterTurns}
+use Rattle.rules.specs.Scheduling.{chosenIn, Served, servedBy, served}
+use Rattle.rules.proofs.ServingLaws.{served-as-single-turns}
 use Rattle.rules.proofs.TurnCases.{on-collective}
+use Rattle.machine.specs.Layout.{Starts}
+use Rattle.machine.specs.Outcomes.{Gives}
+use Rattle.scheduler.specs.declared.Service.{Service}
+use Rattle.scheduler.specs.Serving.{Serves, teamOf}
 use Rattle.records.proofs.Recorded.{Recorded, recorded-with, recorded-each, long-21, then-refused, Call}
 
 -- ---- a start
@@ -32,7 +41,10 @@ module _ (table : List ℕ) (count : ℕ) (words state : List ℕ) where
       let last : (r : Refusal) × (refused 21 0 ≡ Refused r) = (record { number = 21; place = 0 }, refl) in
       then-refused (wellFormed table) _ (then-refused (question18 count) _ (then-refused (question19 (decode table) count words) _ (then-refused (question20 count state) _ last)))
 
-  long-started : (roll : List ℕ) → arrivalSize * mostProcesses < length roll → started table count words state roll ≡ record { answer = Refused (long-start .0); state = state; roll = roll }
+  abbrev refusedStart : List ℕ → Started
+  refusedStart roll = record { answer = Refused (long-start .0); state = state; roll = roll }
+
+  long-started : (roll : List ℕ) → arrivalSize * mostProcesses < length roll → started table count words state roll ≡ refusedStart roll
   unfolding started startedBy startVerdict
   long-started roll l =
       ap (λ (v : Verdict). startedBy (wellFormed table then question18 count then question19 (decode table) count words then question20 count state then v) (decode table) count words state roll) (long-21 count roll l)
@@ -47,11 +59,15 @@ module _ (table : List ℕ) (count : ℕ) (words state : List ℕ) where
   unfolding started
   start-recorded n roll h = by-verdict (startVerdict table count words state roll) n roll h
 
-  pub start-call : Call (λ roll. started table count words state roll .answer) (λ roll. started table count words state roll .state) (λ roll. started table count words state roll .roll)
-  start-call = record {
-    alike = λ r q l m. (ap (λ s. s .answer) (long-started r l) ∙ sym (ap (λ s. s .answer) (long-started q m)), ap (λ s. s .state) (long-started r l) ∙ sym (ap (λ s. s .state) (long-started q m)));
-    kept = λ r l. ap (λ s. s .roll) (long-started r l);
-    recorded = start-recorded;
+  pub start-call : (answer : Verdict) (left : List ℕ) → Call (λ before after. Starts (started table count words state before) answer left after)
+  start-call answer left = record {
+    long = λ before after l said.
+        let at : Starts (refusedStart before) answer left after = subst (λ o. Starts o answer left after) (long-started before l) said in (
+          at .written,
+          λ other m. subst (λ o. Starts o answer left other) (sym (long-started other m))
+              (record { answered = at .answered; left = at .left; written = refl }),
+        );
+    recorded = λ n before after h said. subst (Recorded n) (sym (said .written)) (start-recorded n before h);
   }
 
 -- ---- a step
@@ -61,12 +77,20 @@ module _ (table state : List ℕ) (p : ℕ) where
       let last : (r : Refusal) × (refused 21 0 ≡ Refused r) = (record { number = 21; place = 0 }, refl) in
       then-refused (wellFormed table) _ last
 
-  long-stepped : (roll : List ℕ) → arrivalSize * mostProcesses < length roll → stepped table state roll p ≡ record { answer = NotTaken (long-step .0); state = state; roll = roll }
-  unfolding stepped steppedBy stepVerdict teamVerdict
+  long-team : (roll : List ℕ) → arrivalSize * mostProcesses < length roll → teamVerdict table state roll p ≡ Refused (long-step .0)
+  unfolding teamVerdict
+  long-team roll l =
+      ap (λ (v : Verdict). wellFormed table then v then question20 (processesIn roll) state then question22 (processesIn roll) p
+      then question23 (decode table) state roll (processesIn roll)) (long-21 (processesIn roll) roll l)
+      ∙ long-step .1
+
+  abbrev refusedStep : List ℕ → Outcome
+  refusedStep roll = record { answer = NotTaken (long-step .0); state = state; roll = roll }
+
+  long-stepped : (roll : List ℕ) → arrivalSize * mostProcesses < length roll → stepped table state roll p ≡ refusedStep roll
+  unfolding stepped steppedBy stepVerdict
   long-stepped roll l =
-      ap (λ (v : Verdict). steppedBy ((wellFormed table then v then question20 (processesIn roll) state then question22 (processesIn roll) p
-      then question23 (decode table) state roll (processesIn roll)) then question24 (decode table) state roll (processesIn roll) p) (decode table) state roll p) (long-21 (processesIn roll) roll l)
-      ∙ ap (λ (v : Verdict). steppedBy (v then question24 (decode table) state roll (processesIn roll) p) (decode table) state roll p) (long-step .1)
+      ap (λ (v : Verdict). steppedBy (v then question24 (decode table) state roll (processesIn roll) p) (decode table) state roll p) (long-team roll l)
 
 module _ (n : ℕ) where
   -- an outcome that leaves the words of n records
@@ -112,9 +136,43 @@ module _ (n : ℕ) where
   unfolding stepped
   step-recorded table state roll p h = by-step-verdict (stepVerdict table state roll p) (decode table) state roll p h
 
-pub step-call : (table state : List ℕ) (p : ℕ) → Call (λ roll. stepped table state roll p .answer) (λ roll. stepped table state roll p .state) (λ roll. stepped table state roll p .roll)
-step-call table state p = record {
-  alike = λ r q l m. (ap (λ o. o .answer) (long-stepped table state p r l) ∙ sym (ap (λ o. o .answer) (long-stepped table state p q m)), ap (λ o. o .state) (long-stepped table state p r l) ∙ sym (ap (λ o. o .state) (long-stepped table state p q m)));
-  kept = λ r l. ap (λ o. o .roll) (long-stepped table state p r l);
-  recorded = λ n roll h. step-recorded n table state roll p h;
+pub step-call : (table state : List ℕ) (p : ℕ) (answer : Stepped) (left : List ℕ)
+    → Call (λ before after. Gives (stepped table state before p) answer left after)
+step-call table state p answer left = record {
+  long = λ before after l said.
+      let at : Gives (refusedStep table state p before) answer left after = subst (λ o. Gives o answer left after) (long-stepped table state p before l) said in (
+        at .written,
+        λ other m. subst (λ o. Gives o answer left other) (sym (long-stepped table state p other m))
+            (record { answered = at .answered; left = at .left; written = refl }),
+      );
+  recorded = λ n before after h said. subst (Recorded n) (sym (said .written)) (step-recorded n table state before p h);
 }
+
+-- ---- a call that serves
+module _ (table : List ℕ) where
+  turns-recorded : (n : ℕ) (turns : List ℕ) (team : Team) → Recorded n (team .roll) → Recorded n (afterTurns table team turns .roll)
+  unfolding afterTurns
+  turns-recorded n [] team h = h
+  turns-recorded n (p ∷ turns) team h = turns-recorded n turns (afterTurn table team p) (step-recorded n table (team .state) (team .roll) p h)
+
+  module _ (state : List ℕ) (last turns : ℕ) where
+    abbrev refusedServing : List ℕ → Served
+    refusedServing roll = record { made = 0; last = last; answer = Refused (long-step table state last .0); state = state; roll = roll }
+
+    long-served : (roll : List ℕ) → arrivalSize * mostProcesses < length roll → served table state roll last turns ≡ refusedServing roll
+    unfolding served servedBy
+    long-served roll l = ap (λ (v : Verdict). servedBy v table (teamOf state roll) last turns) (long-team table state last roll l)
+
+    pub serve-call : (service : Service) (left : List ℕ) → Call (λ before after. Serves (served table state before last turns) service left after)
+    serve-call service left = record {
+      long = λ before after l said.
+          let at : Serves (refusedServing before) service left after = subst (λ o. Serves o service left after) (long-served before l) said in (
+            at .written,
+            λ other m. subst (λ o. Serves o service left other) (sym (long-served other m))
+                (record { made = at .made; last = at .last; answered = at .answered; left = at .left; written = refl }),
+          );
+      recorded = λ n before after h said.
+          let team : Team = teamOf state before in
+          subst (Recorded n) (sym (said .written ∙ served-as-single-turns table team last turns .roll-is))
+          (turns-recorded n (chosenIn table team last turns) team h);
+    }

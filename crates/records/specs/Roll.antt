@@ -1,17 +1,11 @@
 -- The roll as records and as words: four words a record, as in rules; and the words that a call lends the core.
-use mathlib.Core.Bool.{cond}
 use mathlib.Core.List.{List, [], _∷_, _++_}
-use Prim.Native.Nat.{ℕ, zero, suc, _+_, _-_, _*_}
-use lib.Dec.{ltb}
+use Prim.Native.Nat.{ℕ, zero, suc, _+_, _-_, _*_, min}
 use lib.ListN.{set, take, replicate}
 use Rattle.rules.specs.declared.Arrival.{Arrival}
 use Rattle.rules.specs.Arrivals.{arrivalSize, arrivalWords, runningRecord}
 use Rattle.rules.specs.Process.{mostProcesses}
 use Rattle.collectives.specs.Given.{arrivalAt}
-
--- a number, or its limit where it is more
-abbrev pub atMost : ℕ → ℕ → ℕ
-atMost n limit = cond (ltb n limit) n limit
 
 -- the words of a roll of records
 unfoldable pub rollWords : List Arrival → List ℕ
@@ -26,7 +20,7 @@ abbrev pub lentWords : ℕ
 lentWords = arrivalSize * mostLent
 
 abbrev pub lentRecords : ℕ → ℕ
-lentRecords records = atMost records mostLent
+lentRecords records = min records mostLent
 
 -- the words lent: of the first `count` records, and of records at rest up to the most
 unfoldable pub loaded : List Arrival → ℕ → List ℕ

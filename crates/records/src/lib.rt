@@ -1,21 +1,25 @@
-// The team's start and step with the arrivals (the paper's roll) lent as a slice of records. The core works on plain words:
+// The team's start, step and serving with the arrivals (the paper's roll) lent as a slice of records. The core works on plain words:
 // the records are loaded into an array of words, which is lent to the core, and saved from it.
 ghost use mathlib.Core.Path.{_≡_};
 ghost use Prim.Native.Nat.{_+_, _*_, _<_};
 ghost use lib.ListN.{length, take, drop};
 ghost use Rattle.rules.specs.Arrivals.{withArrival};
+ghost use Rattle.rules.specs.Scheduling.{served};
 ghost use Rattle.rules.specs.Start.{started};
 ghost use Rattle.rules.specs.Step.{stepped};
 ghost use Rattle.collectives.specs.Given.{arrivalAt};
 ghost use Rattle.machine.specs.Layout.{Starts};
 ghost use Rattle.machine.specs.Outcomes.{Gives};
-ghost use Rattle.records.specs.Roll.{mostLent, atMost, rollWords, lentRecords, loaded, saved};
-ghost use Rattle.records.specs.Held.{StartsLent, GivesLent, startRecords, stepRecords};
+ghost use Rattle.scheduler.specs.Serving.{Serves};
+ghost use Rattle.records.specs.Roll.{mostLent, rollWords, lentRecords, loaded, saved};
+ghost use Rattle.records.specs.Held.{OnLent, startRecords, stepRecords};
 use rules::Arrival;
 use rules::Stepped;
 use rules::Verdict;
 use rules::layout::ARRIVAL_WORDS;
 use rules::layout::MOST_PROCESSES;
+use rules::layout::lesser;
+use scheduler::Service;
 // A host sees a process's latches through the team.
 pub use machine::team::latches;
 
@@ -23,12 +27,6 @@ pub use machine::team::latches;
 const MOST_LENT: usize = MOST_PROCESSES + 1;
 
 const LENT_WORDS: usize = ARRIVAL_WORDS * MOST_LENT;
-
-fn at_most(n: usize, limit: usize) -> usize
-    ensures { λ r. ⌜ r ≡ atMost n limit ⌝ }
-{
-    if n < limit { n } else { limit }
-}
 
 fn placed(words: [u32; LENT_WORDS], p: usize, arrival: Arrival) -> [u32; LENT_WORDS]
     requires { ⌜ p < mostLent ⌝ }
@@ -51,7 +49,7 @@ fn load(roll: &[Arrival]) -> [u32; LENT_WORDS]
     ensures { λ r. ⌜ r ≡ loaded (now (roll .entry)) (lentRecords (length (now (roll .entry)))) ⌝ }
 {
     let mut words = [0; LENT_WORDS];
-    let count = at_most(roll.len(), MOST_LENT);
+    let count = lesser(roll.len(), MOST_LENT);
     let mut p = 0;
     while p < count {
         words = placed(words, p, roll[p]);
@@ -63,7 +61,7 @@ fn load(roll: &[Arrival]) -> [u32; LENT_WORDS]
 fn save(roll: &mut [Arrival], words: [u32; LENT_WORDS])
     ensures { λ _. ⌜ now (roll .exit) ≡ saved words (lentRecords (length (now (roll .entry)))) (now (roll .entry)) ⌝ }
 {
-    let count = at_most(roll.len(), MOST_LENT);
+    let count = lesser(roll.len(), MOST_LENT);
     let mut p = 0;
     while p < count {
         roll[p] = record_at(words, p);
@@ -86,11 +84,12 @@ fn start_words(
     lent: [u32; LENT_WORDS],
     records: usize,
 ) -> StartAnswer
-    ensures { λ r. ⌜ StartsLent (started (now (table .entry)) processes (now (words .entry)) (now (state .entry)))
-        lent (lentRecords records) r (now (state .exit)) ⌝ }
+    ensures { λ r. ⌜ OnLent (λ before after. Starts
+        (started (now (table .entry)) processes (now (words .entry)) (now (state .entry)) before)
+        (r .answer) (now (state .exit)) after) (lentRecords records) lent (r .roll) ⌝ }
 {
     let mut roll = lent;
-    let end = ARRIVAL_WORDS * at_most(records, MOST_LENT);
+    let end = ARRIVAL_WORDS * lesser(records, MOST_LENT);
     let answer = machine::team::start(table, processes, words, state, &mut roll[..end]);
     StartAnswer { answer, roll }
 }
@@ -128,11 +127,11 @@ fn step_words(
     records: usize,
     process: u32,
 ) -> StepAnswer
-    ensures { λ r. ⌜ GivesLent (λ roll. stepped (now (table .entry)) (now (state .entry)) roll process)
-        lent (lentRecords records) r (now (state .exit)) ⌝ }
+    ensures { λ r. ⌜ OnLent (λ before after. Gives (stepped (now (table .entry)) (now (state .entry)) before process)
+        (r .answer) (now (state .exit)) after) (lentRecords records) lent (r .roll) ⌝ }
 {
     let mut roll = lent;
-    let end = ARRIVAL_WORDS * at_most(records, MOST_LENT);
+    let end = ARRIVAL_WORDS * lesser(records, MOST_LENT);
     let answer = machine::team::step(table, state, &mut roll[..end], process);
     StepAnswer { answer, roll }
 }
@@ -145,6 +144,48 @@ pub fn step(table: &[u8], state: &mut [u32], roll: &mut [Arrival], process: u32)
     let records = roll.len();
     let lent = load(roll);
     let after = step_words(table, state, lent, records, process);
+    save(roll, after.roll);
+    after.answer
+}
+
+// A service's answer, and the words lent to it as it leaves them.
+struct ServeAnswer {
+    answer: Service,
+    roll: [u32; LENT_WORDS],
+}
+
+// The core's serving on the words of `records` records.
+fn serve_words(
+    table: &[u8],
+    state: &mut [u32],
+    lent: [u32; LENT_WORDS],
+    records: usize,
+    last: u32,
+    turns: u32,
+) -> ServeAnswer
+    ensures { λ r. ⌜ OnLent (λ before after. Serves (served (now (table .entry)) (now (state .entry)) before last turns)
+        (r .answer) (now (state .exit)) after) (lentRecords records) lent (r .roll) ⌝ }
+{
+    let mut roll = lent;
+    let end = ARRIVAL_WORDS * lesser(records, MOST_LENT);
+    let answer = scheduler::serve(table, state, &mut roll[..end], last, turns);
+    ServeAnswer { answer, roll }
+}
+
+// Turns shared fairly, where the roll is lent as records.
+pub fn serve(
+    table: &[u8],
+    state: &mut [u32],
+    roll: &mut [Arrival],
+    last: u32,
+    turns: u32,
+) -> Service
+    ensures { λ r. ⌜ Serves (served (now (table .entry)) (now (state .entry)) (rollWords (now (roll .entry))) last turns)
+        r (now (state .exit)) (rollWords (now (roll .exit))) ⌝ }
+{
+    let records = roll.len();
+    let lent = load(roll);
+    let after = serve_words(table, state, lent, records, last, turns);
     save(roll, after.roll);
     after.answer
 }
@@ -176,7 +217,7 @@ pub fn start_on(
         × (drop count (r .roll) ≡ drop count roll) ⌝ }
 {
     let mut records = roll;
-    let lent = at_most(count, MOST_PROCESSES);
+    let lent = lesser(count, MOST_PROCESSES);
     let answer = start(table, processes, words, state, &mut records[..lent]);
     started_records(answer, records)
 }
@@ -206,7 +247,7 @@ pub fn step_on(
         × (drop count (r .roll) ≡ drop count roll) ⌝ }
 {
     let mut records = roll;
-    let lent = at_most(count, MOST_PROCESSES);
+    let lent = lesser(count, MOST_PROCESSES);
     let answer = step(table, state, &mut records[..lent], process);
     stepped_records(answer, records)
 }

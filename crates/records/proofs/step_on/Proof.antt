@@ -1,41 +1,40 @@
 -- `records::step_on` meets its contract: a walk of its MIR, by hand. The first records of a local array are lent to `step` and taken back.
 -- Assumes nothing.
-use Rattle.records.proofs.Words.{List, [], _∷_, _++_, _≡_, refl, sym, ℕ, _<_, _^_, arith, lit<, length, take, drop, URA}
-use Rattle.records.proofs.Words.{fullShare, named, w64, tyRef, mut, w32, erased, vint, SProp, emp, id⊢, GName, fat, Memory}
-use Rattle.records.proofs.Words.{Routine, Heap, Calls, Loops, WpFn, Atoms, Fun, factI, givenOf, tables, tablesOf, Given, Item}
-use Rattle.records.proofs.Words.{‵, _$_, _∵_, !, qed, by, move, keep, rewrite, fsplit, use1, feqL, some, given, later, _⊛_}
-use Rattle.records.proofs.Words.{use3, split, pick, learn, await, whole, sub, look-in, agg, look, init, forget, stop, hop}
-use Rattle.records.proofs.Words.{fld, from, load, lit, of-opd, and-then, no-more, assigns, land, returns, enter, alloc1}
-use Rattle.records.proofs.Words.{alloc0, params1, pass1, pass0, free1, free0, addr, fmOf, FmC, Is, pointee, RefT, sliceTy}
-use Rattle.records.proofs.Words.{sliceVal, Room, slice-vals, MutSlice, Contract, Triple, uint-makes, cited, Args, Lfts}
-use Rattle.records.proofs.Words.{Shares, u8, u32, lft-new, lft-end}
+use Prim.Native.Nat.{min}
+use Rattle.records.proofs.Words.{List, [], _∷_, _++_, refl, sym, ℕ, lit<, drop, URA, fullShare, named, w64, tyRef, mut, w32}
+use Rattle.records.proofs.Words.{erased, vint, SProp, emp, id⊢, GName, fat, Memory, Routine, Heap, Calls, Loops, WpFn, Atoms, Fun, factI}
+use Rattle.records.proofs.Words.{givenOf, tables, tablesOf, Given, ‵, _$_, _∵_, !, qed, by, move, keep, rewrite, fsplit, feqL, agg, look}
+use Rattle.records.proofs.Words.{init, stop, from, load, lit, of-opd, and-then, no-more, returns, enter, alloc1, alloc0, params1, pass1, pass0}
+use Rattle.records.proofs.Words.{free0, addr, fmOf, FmC, pointee, RefT, sliceTy, sliceVal, slice-vals, Contract, Triple, uint-makes, cited}
+use Rattle.records.proofs.Words.{Args, Lfts, Shares, u8, u32}
 use denote.Struct.Laws as LL
 use Rattle.rules.specs.declared.Arrival.{Arrival}
 use Rattle.rules.specs.declared.Stepped.{Stepped}
-use Rattle.rules.specs.Step.{Outcome, stepped}
-use Rattle.rules.proofs.Arrival as T
-use Rattle.rules.proofs.Stepped.Laws as PL
+use Rattle.rules.specs.Step.{stepped}
 use Rattle.machine.specs.Outcomes.{Gives}
 use Rattle.rules.specs.Process.{mostProcesses}
+use Rattle.rules.proofs.Arrival as T
+use Rattle.rules.proofs.Stepped.Laws as PL
 use Rattle.records.specs.Held.{stepRecords}
-use Rattle.records.specs.Roll.{atMost, rollWords}
+use Rattle.records.specs.Roll.{rollWords}
 use Rattle.records.proofs.StepRecords as R′
 use Rattle.records.proofs.StepRecords.Laws as RL
-use Rattle.records.proofs.Rows.{stepped-make, stepped-typed, recordVal, record-tell, record-make, Records, recordsTy, recordsVal, records-tell, records-make, records-typed}
-use Rattle.records.proofs.LendLaws.{most-within, most-length, replaced}
+use Rattle.records.proofs.Rows.{stepped-make, stepped-typed, recordVal, record-tell, record-make, Records, recordsVal, records-tell, records-make, records-typed}
+use Rattle.records.proofs.LendLaws.{replaced}
 use Rattle.records.proofs.Calls.{Called, brought, made, calls-told, calls-known}
-use Rattle.records.proofs.Walk.{Params, passed, slice, number, gave, entries, args, Walk, walk-ends, walk-spec}
-use Rattle.records.proofs.Lent.{LentPart, lends-part, part-back}
-use Rattle.records.proofs.RollCalls.{AtMost, calls-count}
-use Rattle.records.proofs.at_most.Symbol.{name as #team·at-most}
-use Rattle.records.proofs.at_most.Met as at-most-thm
+use Rattle.records.proofs.Walk.{Params, passed, slice, number, gave, entries, args, Known, Walk, walk-ends, walk-spec}
+use Rattle.records.proofs.Lent.{lends-first, takes-back}
+use Rattle.records.proofs.RollCalls.{Lesser, calls-count, held-sized, first-length, first-room, firstAt}
+use Rattle.records.proofs.Steps.{arg, sets, lands-in, reborrows, frees1}
+use Rattle.rules.proofs.layout.lesser.Symbol.{name as #lesser}
+use Rattle.rules.proofs.layout.lesser.Met as lesser-thm
 use Rattle.records.proofs.step as step
-use Rattle.records.proofs.step.Symbol.{name as #team·step}
+use Rattle.records.proofs.step.Symbol.{name as #step}
 use Rattle.records.proofs.step.Met as step-thm
 use Rattle.records.proofs.stepped_records as held
-use Rattle.records.proofs.stepped_records.Symbol.{name as #team·stepped-records}
+use Rattle.records.proofs.stepped_records.Symbol.{name as #stepped-records}
 use Rattle.records.proofs.stepped_records.Met as held-thm
-use Rattle.records.proofs.step_on.Key.{name as #team·step-on}
+use Rattle.records.proofs.step_on.Key.{name as #step-on}
 use Rattle.records.proofs.step_on as on
 use Rattle.records.proofs.step_on.Statement as stated
 use Rattle.records.proofs.step_on.Code as code
@@ -44,107 +43,74 @@ abbrev params : Params (on.ended .signature .params) (on.ended .kept)
 params = (slice 0 tt u8, (gave 1 tt u32, (passed (λ _. Records) (λ _ l. recordsVal l ∷ []) (λ _. records-tell) (λ κs x f. refl), (number w64, (number w32, tt)))))
 
 module _ {M : Type 1} (𝓤 : URA M) (H : Heap 𝓤) (A : Atoms 𝓤) (mem : Memory → SProp 𝓤) (run : Routine → Fun 𝓤) where
-  -- the contracts that the proof cites
   abbrev Step : Contract 𝓤
   Step = Called 𝓤 H A step.ended (step.clauses 𝓤 H A mem run)
 
   abbrev Held : Contract 𝓤
   Held = Called 𝓤 H A held.ended (held.clauses 𝓤 H A mem run)
 
-module _ {M : Type 1} (𝓤 : URA M) (H : Heap 𝓤) (A : Atoms 𝓤) (W : Given 𝓤 H A) (mem : Memory → SProp 𝓤) (run : Routine → Fun 𝓤)
-    (κs : Lfts 2) (qs : Shares 2) (table state : RefT (List ℕ)) (room₀ : Room u8 (length (table .now))) (room₁ : Room u32 (length (state .now)))
-    (xs : List Arrival) (held-is : Is Records xs (recordsVal xs ∷ [])) (count : ℕ) (count-fits : count < 2 ^ 64) (process : ℕ) (fits : process < 2 ^ 32) where
+module _ {M : Type 1} (𝓤 : URA M) (H : Heap 𝓤) (A : Atoms 𝓤) (W : Given 𝓤 H A) (mem : Memory → SProp 𝓤) (run : Routine → Fun 𝓤) (C : Calls 𝓤 H)
+    (Λ : Loops 𝓤 H) (fm : FmC 𝓤 H (W .laws) C) (known-count : Triple 𝓤 (C #lesser) (Lesser 𝓤 H A mem run)) (known-step : Triple 𝓤 (C #step) (Step 𝓤 H A mem run))
+    (known-held : Triple 𝓤 (C #stepped-records) (Held 𝓤 H A mem run)) (κs : Lfts 2) (qs : Shares 2) (a : Args on.signature κs) (are : Known on.ended params κs qs a) where
+  abbrev xs : List Arrival
+  xs = a .1 .1 .0
+
   abbrev k : ℕ
-  k = atMost count mostProcesses
+  k = min (a .1 .1 .1 .0) mostProcesses
 
-  sized : length xs ≡ mostProcesses
-  sized = held-is .1 .0 .1
-
-  lent-length : length (take k xs) ≡ k
-  lent-length = most-length count mostProcesses xs sized
-
-  room : Room T.the-row (length (take k xs))
-  room = (omega (arith, lent-length, most-within count mostProcesses), omega (arith, lent-length, most-within count mostProcesses))
-
-  -- the records lent
   abbrev roll : ℕ → GName → RefT (List Arrival)
-  roll b γ = record { ptr = (b, 0); name = γ; now = take k xs }
-
-  abbrev Lent : ℕ → ℕ → GName → Item 𝓤
-  Lent α b γ = ‵ (MutSlice (named 2) (α ∷ []) T.the-row .own (roll b γ) (slice-vals (roll b γ)))
+  roll = firstAt xs (are .1 .1 .0) (a .1 .1 .1 .0)
 
   abbrev to-step : ℕ → ℕ → GName → Step 𝓤 H A mem run .Ghost
-  to-step α b γ = (((κs .0, (κs .1 .0, (α ∷ [], tt))), (qs .0, (qs .1 .0, (fullShare, tt))), tt, (table, (state, (roll b γ, (process, tt)))), (slice-vals table, (slice-vals state, (slice-vals (roll b γ), (vint w32 process ∷ [], tt))))), tt)
+  to-step α b γ = (((κs .0, (κs .1 .0, (α ∷ [], tt))), (qs .0, (qs .1 .0, (fullShare, tt))), tt, (a .0, (a .1 .0, (roll b γ, (a .1 .1 .1 .1 .0, tt)))), (slice-vals (a .0), (slice-vals (a .1 .0), (slice-vals (roll b γ), (vint w32 (a .1 .1 .1 .1 .0) ∷ [], tt))))), tt)
 
   abbrev to-held : Stepped → List Arrival → Held 𝓤 H A mem run .Ghost
   to-held r ys = ((tt, tt, tt, (r, (ys, tt)), (PL.lowered r ∷ [], (recordsVal ys ∷ [], tt))), tt)
 
-  -- what is answered where the words of the roll are `r`
-  abbrev after : List ℕ → Outcome
-  after r = stepped (table .now) (state .now) r process
-
-  abbrev a : Args on.signature κs
-  a = (table, (state, (xs, (count, (process, tt)))))
-
-  -- what is said of an answer, and of the state and the records that it leaves
-  abbrev Said : Stepped → List ℕ → List Arrival → List Arrival → Type 0
-  Said r zs before left = Gives (after (rollWords before)) r zs (rollWords left)
-
-  module _ (C : Calls 𝓤 H) (Λ : Loops 𝓤 H) (fm : FmC 𝓤 H (W .laws) C) (known-count : Triple 𝓤 (C #team·at-most) (AtMost 𝓤 H A mem run)) (known-step : Triple 𝓤 (C #team·step) (Step 𝓤 H A mem run)) (known-held : Triple 𝓤 (C #team·stepped-records) (Held 𝓤 H A mem run)) where
-    walk : Walk on.ended params κs qs a tt 𝓤 H A (on.clauses 𝓤 H A mem run) tt (WpFn 𝓤 H C Λ code.function)
-    walk =
-        qed W (entries on.ended params κs qs a) ∵ enter ! C Λ code.function (args on.ended params κs qs a) _ $
-        alloc1 ! (λ l₀. alloc1 ! (λ l₁. alloc1 ! (λ l₂. alloc1 ! (λ l₃. alloc1 ! (λ l₄. alloc1 ! (λ l₅. alloc1 ! (λ l₆. alloc1 ! (λ l₇. alloc1 ! (λ l₈. alloc1 ! (λ l₉. alloc1 ! (λ l₁₀. alloc1 ! (λ l₁₁. alloc1 ! (λ l₁₂. alloc1 ! (λ l₁₃. alloc0 ! $ params1 ! $
-        pass1 ! (init ! 24 refl (tt, (tt, (record { fits = room₀ .0 }, tt)))) $ pass1 ! (init ! 22 refl (tt, (tt, (record { fits = room₁ .0 }, tt)))) $ pass1 ! (init ! 20 refl (records-typed 𝓤 H A W xs held-is)) $
-        pass1 ! (init ! 18 refl (tt, record { fits = count-fits })) $ pass1 ! (init ! 16 refl (tt, record { fits = fits })) $ pass0 ! $
-        -- [_13; …; _12; …; …; _0; …; the tokens; what the parameters own]: local i stands at 2 · (13 − i)
-        assigns ! (of-opd ! (load ! (from ! (stop !)) (look ! 20 refl))) (from ! (stop !)) (init ! 14 refl (records-typed 𝓤 H A W xs held-is)) $
-        calls-count ! mem run fm known-count count mostProcesses count-fits (lit< tt) (and-then ! (load ! (from ! (stop !)) (look ! 19 refl)) (and-then ! (lit ! tt) (no-more !))) (λ k-fits.
-        land ! (from ! (stop !)) (init ! 12 refl (tt, record { fits = k-fits })) $
-        assigns ! (addr ! (from ! (fld ! refl (hop ! (look-in ! 22 (sub ! 0 refl (whole !))) (stop !))))) (from ! (stop !)) (init ! 8 refl (tt, tt)) $
-        assigns ! (agg ! (and-then ! (load ! (from ! (stop !)) (look ! 8 refl)) (and-then ! (load ! (from ! (fld ! refl (stop !))) (look-in ! 22 (sub ! 1 refl (whole !)))) (no-more !)))) (from ! (stop !)) (init ! 6 refl (tt, (tt, (record { fits = room₁ .0 }, tt)))) $
-        assigns ! (addr ! (from ! (stop !))) (from ! (stop !)) (init ! 4 refl (tt, tt)) $
-        assigns ! (agg ! (and-then ! (load ! (from ! (stop !)) (look ! 4 refl)) (and-then ! (load ! (from ! (stop !)) (look ! 12 refl)) (no-more !)))) (from ! (stop !)) (init ! 2 refl (tt, (tt, (record { fits = k-fits }, tt)))) $
-        rewrite ! 2 (λ (m : ℕ). ‵ (fat fullShare (sliceTy (tyRef erased mut (pointee (T.the-row .written)))) l₁₂ 0 (sliceVal (l₆, 0) m))) (sym lent-length) refl $
-        move ! (28 ∷ 29 ∷ 30 ∷ 31 ∷ []) $
-        -- [token 0; token 1; table; state; _13; …]
-        -- the first k records are lent for a lifetime that is made here
-        lft-new ! tt (λ α. move ! (19 ∷ []) $
-        use1 W (later (some (λ (γ : GName). Lent α l₆ γ ⊛ ‵ (LentPart T.the-row recordVal mostProcesses (α ∷ []) xs k l₆ γ))))
-        (lends-part T.the-row recordVal mostProcesses 𝓤 H A W tt record-tell (record-make 𝓤 H A W) (α ∷ []) xs k l₆ (named 2) held-is room) $ await ! tt $ pick ! (λ γ. split ! $
-        -- [the records lent; what is kept; the new token; token 0; token 1; table; state; _13; …]
-        move ! (3 ∷ 4 ∷ 2 ∷ 5 ∷ 6 ∷ 0 ∷ []) $
-        -- [token 0; token 1; the new token; table; state; the records lent; what is kept; _13; …], without _6
-        calls-told W step.ended (step.clauses 𝓤 H A mem run) (to-step α l₆ γ) fm known-step (brought, (brought, (brought, (made (uint-makes 𝓤 H A W w32 process _ (refl, fits)), tt)))) (id⊢ 𝓤 _) !
-        PL.lowered (PL.lowers .val-is) (λ r zs. Said r (zs .1 .0) (take k xs) (zs .1 .1 .0)) (λ r zs. id⊢ 𝓤 _)
-        (and-then ! (load ! (from ! (stop !)) (look ! 25 refl)) (and-then ! (load ! (from ! (stop !)) (look ! 8 refl)) (and-then ! (load ! (from ! (stop !)) (look ! 4 refl)) (and-then ! (load ! (from ! (stop !)) (look ! 17 refl)) (no-more !))))) (λ r zs said is.
-        move ! (3 ∷ []) $ fsplit ! $ move ! (1 ∷ []) $ feqL ! (λ same. move ! (4 ∷ []) $ fsplit ! $ move ! (1 ∷ []) $ feqL ! (λ long.
-        -- [the records' last list; the state's; token 0; token 1; the new token; what is kept; _13; …]
-        move ! (4 ∷ []) $ lft-end ! tt $ move ! (0 ∷ 5 ∷ 1 ∷ []) $
-        use3 W (later (given (Is Records (zs .1 .1 .0 ++ drop k xs) (recordsVal (zs .1 .1 .0 ++ drop k xs) ∷ [])) (‵ (fat fullShare recordsTy l₆ 0 (recordsVal (zs .1 .1 .0 ++ drop k xs))))))
-        (part-back T.the-row recordVal mostProcesses 𝓤 H A W tt record-tell (record-make 𝓤 H A W) (α ∷ []) xs k l₆ γ (zs .1 .1 .0) sized long) $ await ! tt $ learn ! (λ back.
-        -- [_6; the state's last list; token 0; token 1; _13; …], without _6
-        land ! (from ! (stop !)) (init ! 14 refl (stepped-typed 𝓤 H A W r is)) $
-        assigns ! (of-opd ! (load ! (from ! (stop !)) (look ! 0 refl))) (from ! (stop !)) (init ! 4 refl (records-typed 𝓤 H A W (zs .1 .1 .0 ++ drop k xs) back)) $
-        calls-known W held.ended (held.clauses 𝓤 H A mem run) (to-held r (zs .1 .1 .0 ++ drop k xs)) fm known-held
-        (made (stepped-make 𝓤 H A W r _ is), (made (records-make 𝓤 H A W (zs .1 .1 .0 ++ drop k xs) _ back), tt)) (id⊢ 𝓤 _) !
-        RL.lowered (RL.lowers .val-is) (stepRecords r (zs .1 .1 .0 ++ drop k xs)) (λ _ _. id⊢ 𝓤 _)
-        (and-then ! (load ! (from ! (stop !)) (look ! 15 refl)) (and-then ! (load ! (from ! (stop !)) (look ! 5 refl)) (no-more !))) (λ _ whole-is.
-        land ! (from ! (stop !)) (init ! 29 refl (LL.lawful R′.the-type RL.the-laws 𝓤 H A W .typed (stepRecords r (zs .1 .1 .0 ++ drop k xs)) _ whole-is .0)) $
-        returns ! (look ! 29 refl) $
-        forget ! 0 refl $ forget ! 4 refl $ forget ! 6 refl $ forget ! 8 refl $ forget ! 10 refl $ forget ! 12 refl $ forget ! 14 refl $ forget ! 16 refl $ forget ! 19 refl $ forget ! 21 refl $ forget ! 23 refl $ forget ! 25 refl $ forget ! 27 refl $ forget ! 29 refl $
-        move ! (29 ∷ 30 ∷ []) $ free1 ! $ move ! (27 ∷ 28 ∷ []) $ free1 ! $ move ! (25 ∷ 26 ∷ []) $ free1 ! $ move ! (23 ∷ 24 ∷ []) $ free1 ! $ move ! (21 ∷ 22 ∷ []) $ free1 ! $ move ! (19 ∷ 20 ∷ []) $ free1 ! $ move ! (0 ∷ 18 ∷ []) $ free1 ! $ move ! (15 ∷ 16 ∷ []) $ free1 ! $ move ! (13 ∷ 14 ∷ []) $ free1 ! $ move ! (11 ∷ 12 ∷ []) $ free1 ! $ move ! (9 ∷ 10 ∷ []) $ free1 ! $ move ! (7 ∷ 8 ∷ []) $ free1 ! $ move ! (5 ∷ 6 ∷ []) $ free1 ! $ move ! (3 ∷ 4 ∷ []) $ free1 ! $ free0 ! $
-        keep ! (1 ∷ 2 ∷ 0 ∷ []) $ by ! (walk-ends on.ended params κs qs a tt 𝓤 H A (on.clauses 𝓤 H A mem run) tt W _ (stepRecords r (zs .1 .1 .0 ++ drop k xs)) (tt, (zs .1 .0, (tt, (tt, (tt, tt)))))
-        (tt, (same, (tt, (tt, (tt, tt))))) (LL.makes R′.the-type RL.the-plain 𝓤 H A (stepRecords r (zs .1 .1 .0 ++ drop k xs)) _ whole-is)
-        (factI 𝓤 _ (emp 𝓤) (replaced count mostProcesses xs (zs .1 .1 .0) sized long (Said r (zs .1 .0)) said)))))))))))))))))))))))))
+  walk : Walk on.ended params κs qs a tt 𝓤 H A (on.clauses 𝓤 H A mem run) tt (WpFn 𝓤 H C Λ code.function)
+  walk =
+      qed W (entries on.ended params κs qs a) ∵ enter ! C Λ code.function (args on.ended params κs qs a) _ $
+      alloc1 ! (λ l₀. alloc1 ! (λ l₁. alloc1 ! (λ l₂. alloc1 ! (λ l₃. alloc1 ! (λ l₄. alloc1 ! (λ l₅. alloc1 ! (λ l₆. alloc1 ! (λ l₇. alloc1 ! (λ l₈. alloc1 ! (λ l₉. alloc1 ! (λ l₁₀. alloc1 ! (λ l₁₁. alloc1 ! (λ l₁₂. alloc1 ! (λ l₁₃. alloc0 ! $ params1 ! $
+      pass1 ! (init ! 24 refl (tt, (tt, (record { fits = are .0 .0 .1 .0 }, tt)))) $ pass1 ! (init ! 22 refl (tt, (tt, (record { fits = are .1 .0 .0 .1 .0 }, tt)))) $ pass1 ! (init ! 20 refl (records-typed 𝓤 H A W xs (are .1 .1 .0))) $
+      pass1 ! (init ! 18 refl (tt, record { fits = are .1 .1 .1 .0 .1 })) $ pass1 ! (init ! 16 refl (tt, record { fits = are .1 .1 .1 .1 .0 .1 })) $ pass0 ! $
+      -- [_13; …; _12; …; …; _0; …; the tokens; what the parameters own]: local i stands at 2 · (13 − i)
+      sets ! (of-opd ! (load ! (from ! (stop !)) (look ! 20 refl))) 14 refl (records-typed 𝓤 H A W xs (are .1 .1 .0)) $
+      calls-count ! mem run fm known-count (a .1 .1 .1 .0) mostProcesses (are .1 .1 .1 .0 .1) (lit< tt) (arg ! 19 refl (and-then ! (lit ! tt) (no-more !))) (λ k-fits.
+      lands-in ! 12 refl (tt, record { fits = k-fits }) $ reborrows ! 22 8 6 refl refl refl refl refl refl (tt, tt) (tt, (tt, (record { fits = are .1 .0 .0 .1 .0 }, tt))) $
+      sets ! (addr ! (from ! (stop !))) 4 refl (tt, tt) $
+      sets ! (agg ! (arg ! 4 refl (arg ! 12 refl (no-more !)))) 2 refl (tt, (tt, (record { fits = k-fits }, tt))) $
+      rewrite ! 2 (λ (m : ℕ). ‵ (fat fullShare (sliceTy (tyRef erased mut (pointee (T.the-row .written)))) l₁₂ 0 (sliceVal (l₆, 0) m))) (sym (first-length xs (are .1 .1 .0) (a .1 .1 .1 .0))) refl $
+      move ! (14 ∷ 28 ∷ 29 ∷ 30 ∷ 31 ∷ []) $
+      -- [_6; the tokens; what the slices own; _13; …], without _6: its first k records are lent for a lifetime that is made here
+      lends-first T.the-row recordVal mostProcesses tt record-tell (record-make 𝓤 H A W) xs k l₆ ! (named 2) (are .1 .1 .0) (first-room xs (are .1 .1 .0) (a .1 .1 .1 .0)) (λ α γ.
+      move ! (3 ∷ 4 ∷ 2 ∷ 5 ∷ 6 ∷ 0 ∷ []) $
+      -- [the tokens; the new token; what the slices own; the records lent; what is kept; _13; …]
+      calls-told W step.ended (step.clauses 𝓤 H A mem run) (to-step α l₆ γ) fm known-step (brought, (brought, (brought, (made (uint-makes 𝓤 H A W w32 (a .1 .1 .1 .1 .0) _ (refl, are .1 .1 .1 .1 .0 .1)), tt)))) (id⊢ 𝓤 _) !
+      PL.lowered (PL.lowers .val-is) _ (λ r zs. id⊢ 𝓤 _)
+      (arg ! 25 refl (arg ! 8 refl (arg ! 4 refl (arg ! 17 refl (no-more !))))) (λ r zs said is.
+      move ! (3 ∷ []) $ fsplit ! $ move ! (1 ∷ []) $ feqL ! (λ same. move ! (4 ∷ []) $ fsplit ! $ move ! (1 ∷ []) $ feqL ! (λ long.
+      -- [the records' last list; the state's; the tokens; the new token; what is kept; _13; …]
+      move ! (4 ∷ 5 ∷ 0 ∷ []) $ takes-back T.the-row recordVal mostProcesses tt record-tell (record-make 𝓤 H A W) xs k l₆ ! α γ (zs .1 .1 .0) (held-sized xs (are .1 .1 .0) (a .1 .1 .1 .0)) long (λ back.
+      -- [_6; the state's last list; the tokens; _13; …], without _6
+      lands-in ! 14 refl (stepped-typed 𝓤 H A W r is) $
+      sets ! (of-opd ! (load ! (from ! (stop !)) (look ! 0 refl))) 4 refl (records-typed 𝓤 H A W (zs .1 .1 .0 ++ drop k xs) back) $
+      calls-known W held.ended (held.clauses 𝓤 H A mem run) (to-held r (zs .1 .1 .0 ++ drop k xs)) fm known-held
+      (made (stepped-make 𝓤 H A W r _ is), (made (records-make 𝓤 H A W (zs .1 .1 .0 ++ drop k xs) _ back), tt)) (id⊢ 𝓤 _) !
+      RL.lowered (RL.lowers .val-is) (stepRecords r (zs .1 .1 .0 ++ drop k xs)) (λ _ _. id⊢ 𝓤 _) (arg ! 15 refl (arg ! 5 refl (no-more !))) (λ _ whole-is.
+      lands-in ! 29 refl (LL.lawful R′.the-type RL.the-laws 𝓤 H A W .typed (stepRecords r (zs .1 .1 .0 ++ drop k xs)) _ whole-is .0) $
+      returns ! (look ! 29 refl) $
+      move ! (29 ∷ 30 ∷ []) $ frees1 ! $ move ! (27 ∷ 28 ∷ []) $ frees1 ! $ move ! (25 ∷ 26 ∷ []) $ frees1 ! $ move ! (23 ∷ 24 ∷ []) $ frees1 ! $ move ! (21 ∷ 22 ∷ []) $ frees1 ! $ move ! (19 ∷ 20 ∷ []) $ frees1 ! $ move ! (0 ∷ 18 ∷ []) $ frees1 ! $ move ! (15 ∷ 16 ∷ []) $ frees1 ! $ move ! (13 ∷ 14 ∷ []) $ frees1 ! $ move ! (11 ∷ 12 ∷ []) $ frees1 ! $ move ! (9 ∷ 10 ∷ []) $ frees1 ! $ move ! (7 ∷ 8 ∷ []) $ frees1 ! $ move ! (5 ∷ 6 ∷ []) $ frees1 ! $ move ! (3 ∷ 4 ∷ []) $ frees1 ! $ free0 ! $
+      keep ! (1 ∷ 2 ∷ 0 ∷ []) $ by ! (walk-ends on.ended params κs qs a tt 𝓤 H A (on.clauses 𝓤 H A mem run) tt W _ (stepRecords r (zs .1 .1 .0 ++ drop k xs)) (tt, (zs .1 .0, (tt, (tt, (tt, tt)))))
+      (tt, (same, (tt, (tt, (tt, tt))))) (LL.makes R′.the-type RL.the-plain 𝓤 H A (stepRecords r (zs .1 .1 .0 ++ drop k xs)) _ whole-is)
+      (factI 𝓤 _ (emp 𝓤) (replaced (a .1 .1 .1 .0) mostProcesses xs (zs .1 .1 .0) (held-sized xs (are .1 .1 .0) (a .1 .1 .1 .0)) long
+      (λ before after. Gives (stepped (a .0 .now) (a .1 .0 .now) (rollWords before) (a .1 .1 .1 .1 .0)) r (zs .1 .0) (rollWords after)) said))))))))))))))))))))))))
 
 pub step-on-spec : {M : Type 1} → stated.statement M
 unfolding code.routine tablesOf
 step-on-spec 𝓤 H 𝓜 𝓖 𝓡 =
-    walk-spec on.ended params 𝓤 H 𝓜 𝓖 𝓡 (on.clauses 𝓤 H (𝓖 .A) (𝓜 .mem) (𝓡 .run)) code.env #team·step-on code.function (code.unfolded 𝓤 H 𝓜 𝓡) (λ κs qs bounds a g are.
-    walk 𝓤 H (𝓖 .A) (givenOf 𝓤 H 𝓜 𝓖) (𝓜 .mem) (𝓡 .run) κs qs (a .0) (a .1 .0) (are .0 .0 .1) (are .1 .0 .0 .1)
-    (a .1 .1 .0) (are .1 .1 .0) (a .1 .1 .1 .0) (are .1 .1 .1 .0 .1) (a .1 .1 .1 .1 .0) (are .1 .1 .1 .1 .0 .1)
-    (tables 𝓤 H 𝓜 𝓡 code.env .C) (tables 𝓤 H 𝓜 𝓡 code.env .Λ) (fmOf 𝓤 H (givenOf 𝓤 H 𝓜 𝓖 .laws) (tablesOf 𝓤 H 𝓜 (tables 𝓤 H 𝓜 𝓡 code.env)))
-    (cited 𝓤 H (AtMost 𝓤 H (𝓖 .A) (𝓜 .mem) (𝓡 .run)) 𝓜 𝓡 code.env #team·at-most _ code.calls-team·at-most (at-most-thm.met 𝓤 H 𝓜 𝓖 𝓡))
-    (cited 𝓤 H (Step 𝓤 H (𝓖 .A) (𝓜 .mem) (𝓡 .run)) 𝓜 𝓡 code.env #team·step _ code.calls-team·step (step-thm.met 𝓤 H 𝓜 𝓖 𝓡))
-    (cited 𝓤 H (Held 𝓤 H (𝓖 .A) (𝓜 .mem) (𝓡 .run)) 𝓜 𝓡 code.env #team·stepped-records _ code.calls-team·stepped-records (held-thm.met 𝓤 H 𝓜 𝓖 𝓡)))
+    walk-spec on.ended params 𝓤 H 𝓜 𝓖 𝓡 (on.clauses 𝓤 H (𝓖 .A) (𝓜 .mem) (𝓡 .run)) code.env #step-on code.function (code.unfolded 𝓤 H 𝓜 𝓡) (λ κs qs bounds a g are.
+    walk 𝓤 H (𝓖 .A) (givenOf 𝓤 H 𝓜 𝓖) (𝓜 .mem) (𝓡 .run) (tables 𝓤 H 𝓜 𝓡 code.env .C) (tables 𝓤 H 𝓜 𝓡 code.env .Λ)
+    (fmOf 𝓤 H (givenOf 𝓤 H 𝓜 𝓖 .laws) (tablesOf 𝓤 H 𝓜 (tables 𝓤 H 𝓜 𝓡 code.env)))
+    (cited 𝓤 H (Lesser 𝓤 H (𝓖 .A) (𝓜 .mem) (𝓡 .run)) 𝓜 𝓡 code.env #lesser _ code.calls-rules·layout·lesser (lesser-thm.met 𝓤 H 𝓜 𝓖 𝓡))
+    (cited 𝓤 H (Step 𝓤 H (𝓖 .A) (𝓜 .mem) (𝓡 .run)) 𝓜 𝓡 code.env #step _ code.calls-records·step (step-thm.met 𝓤 H 𝓜 𝓖 𝓡))
+    (cited 𝓤 H (Held 𝓤 H (𝓖 .A) (𝓜 .mem) (𝓡 .run)) 𝓜 𝓡 code.env #stepped-records _ code.calls-records·stepped-records (held-thm.met 𝓤 H 𝓜 𝓖 𝓡)) κs qs a are)
