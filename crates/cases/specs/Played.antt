@@ -7,7 +7,8 @@ use Rattle.rules.specs.declared.Event.the-variants.{Moved, Finished, Arrived}
 use Rattle.rules.specs.declared.TeamStatus.the-variants.{Going, Done, Deadlocked}
 use Rattle.rules.specs.declared.Verdict.the-variants.{Accepted}
 use Rattle.rules.specs.Answers.{refused}
-use Rattle.rules.specs.Cases.{opened, bytes, verdict, startOn, run, answer, t1, zeros, broadcast-table, sent, rosters, gathered-by, stocktake}
+use Rattle.rules.specs.Cases.{opened, bytes, verdict, startOn, run, answer, t1, zeros}
+use Rattle.rules.specs.Cases.{broadcast-table, sent, rosters, gathered-by, stocktake}
 use Rattle.rules.specs.Process.{depthAt, stackAt, stackPlaces}
 use Rattle.rules.specs.Run.{Team, afterTurns}
 use Rattle.rules.specs.Step.{stepVerdict, stepped}

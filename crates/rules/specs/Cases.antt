@@ -1,9 +1,9 @@
--- The cases that the paper marks to be proved of the rules, and one or two of each request, one table of theorems, each by computation
--- from the words of a table. The crate cases has more.
+-- The cases that the paper marks to be proved of the rules, and one or two of each request, one table of theorems, each by
+-- computation from the words of a table. The crate cases has more.
 use mathlib.Core.List.{List, [], _∷_, _++_}
 use mathlib.Core.Path.{_≡_, refl}
-use Prim.Native.Nat.{ℕ, zero, suc, _+_, _-_, _*_, _/_, _%_, _^_}
-use lib.ListN.{getD, replicate, set, take, drop}
+use Prim.Native.Nat.{ℕ, _+_, _-_, _*_, _/_, _%_, _^_}
+use lib.ListN.{getD, replicate, set, take}
 use Rattle.rules.specs.declared.Event.{Event}
 use Rattle.rules.specs.declared.Event.the-variants.{Moved, Finished, Arrived, Completed}
 use Rattle.rules.specs.declared.Stepped.{Stepped}
@@ -13,7 +13,7 @@ use Rattle.rules.specs.declared.TeamStatus.the-variants.{Going, Done, De
 use Rattle.rules.specs.declared.Verdict.{Verdict}
 use Rattle.rules.specs.declared.Verdict.the-variants.{Accepted}
 use Rattle.rules.specs.Acceptance
-use Rattle.rules.specs.Acceptance.{scratchWords, checked, checkedScratch}
+use Rattle.rules.specs.Acceptance.{scratchWords, checked}
 use Rattle.rules.specs.Answers.{refused}
 use Rattle.rules.specs.Arrivals
 use Rattle.rules.specs.Arrivals.{arrivalSize}
@@ -23,16 +23,15 @@ use Rattle.rules.specs.Collective
 use Rattle.rules.specs.Evaluation
 use Rattle.rules.specs.Evaluation.{Environment, value}
 use Rattle.rules.specs.Judgement
-use Rattle.rules.specs.Judgement.{fixing, fixed, unfixed}
 use Rattle.rules.specs.Process
-use Rattle.rules.specs.Process.{depthAt, stackAt, stackPlaces, processWords, processAt}
+use Rattle.rules.specs.Process.{depthAt, stackPlaces, processWords, processAt}
 use Rattle.rules.specs.Run
 use Rattle.rules.specs.Run.{Team, answers, afterTurns, startTeam}
 use Rattle.rules.specs.Scheduling
 use Rattle.rules.specs.Scheduling.{served, chosenIn}
 use Rattle.rules.specs.Start
 use Rattle.rules.specs.Step
-use Rattle.rules.specs.Step.{stepVerdict, stepped}
+use Rattle.rules.specs.Step.{stepVerdict}
 use Rattle.rules.specs.Table
 use Rattle.rules.specs.WellFormed
 use Rattle.rules.specs.Table.{decode}

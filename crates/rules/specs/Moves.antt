@@ -15,9 +15,10 @@ Moves before after =
     ⊎ (((before ≡ waiting) × (after ≡ ended))
     ⊎ ((before ≡ running) × (after ≡ ended))))
 
--- for every table, state, roll and turn, refused or taken: each record stays, all four words of it, or makes one of the moves. That
--- of the process whose arrival completes a collective may do two, and then it stays or has gone from running to ended.
+-- for every table, state, roll and turn, refused or taken: each record stays, all four words of it, or makes one of the moves.
+-- That of the process whose arrival completes a collective may make two, and then it stays or has gone from running to ended.
 abbrev pub OnlyMoves : Type 0
 OnlyMoves =
     (table state roll : List ℕ) (p q : ℕ) → q < processesIn roll
-    → SameRecord (stepped table state roll p .roll) roll q ⊎ Moves (statusAt roll q) (statusAt (stepped table state roll p .roll) q)
+    → SameRecord (stepped table state roll p .roll) roll q
+    ⊎ Moves (statusAt roll q) (statusAt (stepped table state roll p .roll) q)

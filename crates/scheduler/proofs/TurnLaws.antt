@@ -1,28 +1,27 @@
 -- What a turn leaves of a state and a roll that question 23 held of, be they made up: sizes, not all waiting at one node, and what
 -- is left to ask.
-use mathlib.Core.Bool.{true, false, not, _&&_}
+use mathlib.Core.Bool.{true, false, not}
 use mathlib.Core.List.{List}
 use mathlib.Core.Logic.{_≢_, ⊎-elim}
 use mathlib.Core.Path.{_≡_, refl, sym, _∙_, subst, fun-ext}
 use Prim.Native.Nat.{ℕ, _*_, _-_, _<_}
-use native.Mathlib.Decide.{decLt, ℕ-discrete}
+use native.Mathlib.Decide.{ℕ-discrete}
 use native.Mathlib.Omega.{arith}
 use lib.Dec.{eqb}
 use lib.ListN.{length}
-use borrow.Author.Tests.{eqb-true, eqb-false, eq-eqb, ne-eqb, le-leb, not-true, not-false}
+use borrow.Author.Tests.{eqb-true, eqb-false, ne-eqb, le-leb}
 use Rattle.rules.specs.declared.Answer.{Answer}
 use Rattle.rules.specs.declared.Refusal.{Refusal}
 use Rattle.rules.specs.declared.Stepped.{Stepped}
 use Rattle.rules.specs.declared.Stepped.the-variants.{Taken, Refused}
 use Rattle.rules.specs.Arrivals.{running, waiting, arrivalSize, runningRecord, endedRecord}
-use Rattle.rules.specs.Arrivals.{statusAt, arrivalNode, arrivalValue, arrivalSource, SameRecord, allAtOneNode}
+use Rattle.rules.specs.Arrivals.{statusAt, SameRecord, allAtOneNode}
 use Rattle.rules.specs.Collective.{arrivalOf, received, completedState, releasedRoll}
 use Rattle.rules.specs.Process.{stackPlaces, processWords, processAt, withProcess, environment, depth, top, popped}
 use Rattle.rules.specs.Step.{Outcome, stackFits, fieldsZero, lackedZero, waitFits, leaveFits, recordFits, processFits}
 use Rattle.rules.specs.Step.{completed, stepRunning, stepTaken}
-use Rattle.rules.specs.Table.{Program, decode, Collective, barrier, broadcast, exchange, collective, nodes, statementAt, isLeave}
+use Rattle.rules.specs.Table.{Program, decode, Collective, barrier, broadcast, exchange, collective, statementAt}
 use Rattle.rules.specs.WellFormed.{isStatement}
-use Rattle.rules.proofs.AnswerLaws.{both-left, both-right, both-true}
 use Rattle.rules.proofs.ArrivalLaws.{RecordIs, with-arrival-length, with-arrival-same, with-arrival-other}
 use Rattle.rules.proofs.ArrivalLaws.{each-arrival-length}
 use Rattle.rules.proofs.ChoiceLaws.{bool-cases, first-none, all-true, all-at}
@@ -30,7 +29,7 @@ use Rattle.rules.proofs.CollectiveLaws.{completed-length, completed-at}
 use Rattle.rules.proofs.EntryLaws.{Statements, each-kept, each-popped, statements-fit, statements-advanced}
 use Rattle.loops.specs.Upward.{hasLeave}
 use Rattle.loops.proofs.BuiltLaws.{no-leave-at}
-use Rattle.rules.proofs.Formed.{Formed, formed, statement-past}
+use Rattle.rules.proofs.Formed.{formed}
 use Rattle.rules.proofs.HomeLaws.{stores-low}
 use Rattle.rules.proofs.Completion.{released-is, released-apart}
 use Rattle.rules.proofs.MoveLaws.{running-record}

@@ -1,4 +1,4 @@
--- What evaluation is given: the facts that the questions of a start and a step have shown; and the operator that a kind stands for.
+-- What evaluation is given, the facts that the questions of a start and a step have shown, and the operator that a kind is.
 use mathlib.Core.List.{List, [], _∷_}
 use mathlib.Core.Bool.{true}
 use mathlib.Core.Path.{_≡_}
