@@ -13,11 +13,11 @@ use Rattle.rules.specs.Table.{Statement, nothing, assign, sequence, branch, loo
 use Rattle.rules.specs.WellFormed.{inTree, calledBelow, question12}
 use Rattle.rules.proofs.AnswerLaws.{each-accepted}
 use Rattle.rules.proofs.ChoiceLaws.{bool-cases, all-true}
+use Rattle.rules.proofs.PartLaws.{tree-low}
 use Rattle.table.specs.Uses.{CallsBelow}
 use Rattle.calls.specs.Blocks.{Blocks, none, more}
 use Rattle.calls.specs.Walk.{callsBelow, ownCalls}
 use Rattle.calls.proofs.CallLaws.{call-law}
-use Rattle.calls.proofs.TreeLaws.{tree-low}
 
 -- what stands below node n calls below procedure p
 blocks-below : (program : Program) {n p : ℕ} → Blocks program n p → (k : ℕ) → k < n → CallsBelow program k p

@@ -3,28 +3,21 @@ use mathlib.Core.Bool.{true, false}
 use mathlib.Core.List.{List, _++_}
 use mathlib.Core.Logic.{_⊎_, inl, inr, ⊎-elim}
 use mathlib.Core.Path.{_≡_, _∙_, ap}
-use Prim.Native.Nat.{ℕ, _+_, _≤_, _<_}
+use Prim.Native.Nat.{ℕ, _+_, _<_}
 use native.Mathlib.Decide.{decLt}
 use native.Mathlib.Omega.{arith}
-use lib.Dec.{eqb}
-use borrow.Author.Tests.{eqb-true}
-use Rattle.rules.specs.Table.{Program, decode, nodes, nodeAt}
+use Rattle.rules.specs.Table.{decode, nodes, nodeAt}
 use Rattle.rules.specs.WellFormed.{partsAt, occurrences, inTree}
 use Rattle.rules.proofs.ChoiceLaws.{bool-cases}
-use Rattle.rules.proofs.AnywhereLaws.{In, by-anywhere, stands-down, stands-above}
+use Rattle.rules.proofs.AnywhereLaws.{In, stands-down, stands-above}
 use Rattle.rules.proofs.LeaveLaws.{counted-in}
 use Rattle.rules.proofs.LoopLaws.{in-counted, counted-append}
+use Rattle.rules.proofs.PartLaws.{tree-low}
 use Rattle.table.specs.declared.Header.{Header}
 use Rattle.table.specs.Roles.{roleOf, isPart, fieldParts}
 use Rattle.table.specs.Uses.{Fitting}
 use Rattle.table.proofs.FittingLaws.{part-below, fields-fit}
 use Rattle.table.proofs.RoleLaws.{parts-law}
-
-module _ (program : Program) where
-  pub tree-low : (n m : ℕ) → inTree program n m ≡ true → n ≤ m
-  tree-low n m h =
-      by-anywhere (partsAt program) (λ k. eqb k n) (λ k. n ≤ k) (λ k e. omega (arith, eqb-true k n e))
-      (λ k a i l low. omega arith) m h
 
 -- parts stand below their node
 in-field : (k role value : ℕ) → In k (fieldParts role value) → (isPart role ≡ true) × (k ≡ value)

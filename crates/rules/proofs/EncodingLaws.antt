@@ -5,15 +5,17 @@ use mathlib.Core.Logic.{⊎-elim}
 use mathlib.Core.Path.{_≡_, refl, sym, _∙_, ap}
 use Prim.Native.Nat.{ℕ, zero, suc, _+_, _-_, _*_, _/_, _%_, _^_, _≤_, _<_}
 use native.Mathlib.Decide.{decLt}
-use native.Mathlib.Nat.{div-div-eq-div-mul}
+use native.Mathlib.Nat.{div-div-eq-div-mul, zero-div}
 use native.Mathlib.Omega.{arith}
 use lib.Dec.{leb, eqb}
 use lib.ListN.{length, getD, length-append, List·getD-append}
+use lib.Pow.{field, mod-mod-pow}
 use lib.Seq.{getD-append-add}
 use borrow.Author.Tests.{lt-ltb, le-ltb, leb-true}
 use Rattle.rules.specs.declared.Node.{Node}
 use Rattle.rules.specs.declared.Verdict.the-variants.{Accepted}
-use Rattle.rules.specs.Encoding.{wordBytes, headerWord, flagBits, bodyWord, packed, wordOf, encode, Encodable, DecodeEncode, reflagged}
+use Rattle.rules.specs.Encoding.{wordBytes, headerWord, flagBits, bodyWord, packed, wordOf, encode, Encodable, DecodeEncode}
+use Rattle.rules.specs.Encoding.{Bounded, reflagged}
 use Rattle.rules.specs.Evaluation.{bit}
 use Rattle.rules.specs.Judgement.{fixing, deadIn, live, counted}
 use Rattle.rules.specs.Table.{Program, decode, wordAt, procedureWord, unpacked}
@@ -21,7 +23,7 @@ use Rattle.rules.specs.Table.{variables, procedures, nodes, flagged, bod
 use Rattle.rules.specs.WellFormed.{joined, isExpression, isStatement, kindKnown, partsAt, loopAround, nearestLoop, wellFormed}
 use Rattle.rules.proofs.AnswerLaws.{both-right}
 use Rattle.rules.proofs.AnywhereLaws.{either-cases}
-use Rattle.rules.proofs.Formed.{formed, word-past}
+use Rattle.rules.proofs.Formed.{formed, well-passes, word-past}
 
 -- lists of four, joined
 module _ (list : ℕ → List ℕ) (four : (i : ℕ) → length (list i) ≡ 4) where
@@ -265,6 +267,41 @@ encodable table e =
       kinds-fit = λ n l. known-kind (decode table) n (shape .known n l);
       fields-fit = λ n l. (omega arith, omega arith, omega arith);
       nodes-past = shape .past;
+    }
+
+-- a bit among low ones that are all 0
+bit-zero : (w d k : ℕ) → w % 2 ^ (d + 1 + k) ≡ 0 → w / 2 ^ k % 2 ≡ 0
+bit-zero w d k e =
+    sym (mod-mod-pow (w / 2 ^ k) d 1)
+    ∙ ap (λ x. x % 2) (sym (field w (d + 1) k) ∙ (ap (λ x. x / 2 ^ k) e ∙ zero-div (2 ^ k)))
+
+flags-off : (table : List ℕ) → wellFormed table ≡ Accepted → (a : ℕ) → variables (decode table) ≤ a
+    → flagged (decode table) a ≡ false
+unfolding decode flagged
+flags-off table e a h =
+    elim (decLt a 32) [
+      | yes l ↦
+          let v = variables (decode table) in
+          let places : 32 - v ≡ a - v + 1 + (31 - a) = omega arith in
+          let zeros : wordAt table 1 % 2 ^ (a - v + 1 + (31 - a)) ≡ 0 =
+          ap (λ k. wordAt table 1 % 2 ^ k) (sym places) ∙ well-passes table e .unflagged in
+          simp (lt-ltb a 32 l, bit-zero (wordAt table 1) (a - v) (31 - a) zeros)
+      | no m ↦ simp (le-ltb a 32 (omega arith))
+    ]
+
+-- and is as questions 3, 5 and 6 ask
+pub bounded : (table : List ℕ) → wellFormed table ≡ Accepted → Bounded (decode table)
+bounded table e =
+    let shape = formed table e in
+    record {
+      variables-low = shape .variables-low;
+      variables-high = shape .variables-high;
+      procedures-low = shape .procedures-low;
+      procedures-high = shape .procedures-high;
+      nodes-low = shape .nodes-low;
+      nodes-high = shape .nodes-high;
+      flags-off = flags-off table e;
+      bodies-below = shape .body-below;
     }
 
 -- other flags leave what is said of a program's loops and of what counts as it is

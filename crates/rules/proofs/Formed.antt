@@ -2,7 +2,7 @@
 use mathlib.Core.Bool.{true, _&&_}
 use mathlib.Core.List.{List}
 use mathlib.Core.Path.{_≡_, ap}
-use Prim.Native.Nat.{ℕ, _+_, _*_, _%_, _^_, _≤_, _<_}
+use Prim.Native.Nat.{ℕ, _+_, _-_, _*_, _%_, _^_, _≤_, _<_}
 use native.Mathlib.Decide.{decLt}
 use native.Mathlib.Omega.{arith}
 use lib.Dec.{leb, ltb, eqb}
@@ -14,8 +14,9 @@ use Rattle.rules.specs.Table.{wordAt, edition, variables, procedures, no
 use Rattle.rules.specs.Table.{constant, nothing, leave, expressionOf, statementOf, expressionAt, statementAt}
 use Rattle.rules.specs.WellFormed.{question2, question3, question4, question5, question6, question7, question8}
 use Rattle.rules.specs.WellFormed.{question9, question10, question11, question26, headerFits, procedureFits}
-use Rattle.rules.specs.WellFormed.{isStatement, kindKnown, nodeFits, expressionFits, statementFits, occurrences, uses}
-use Rattle.rules.specs.WellFormed.{usedOnce, calledBelow, nearestLoop, leaveEnclosed, wellBuilt, wellFormed}
+use Rattle.rules.specs.WellFormed.{isStatement, kindKnown, unnamedZero, nodeFits, expressionFits, statementFits}
+use Rattle.rules.specs.WellFormed.{occurrences, uses, usedOnce, calledBelow, nearestLoop, leaveEnclosed}
+use Rattle.rules.specs.WellFormed.{wellBuilt, wellFormed}
 use Rattle.rules.proofs.AnswerLaws.{both-left, both-right, then-first, then-rest, ask-holds, each-passed}
 use Rattle.rules.proofs.ChoiceLaws.{Passed}
 
@@ -79,8 +80,10 @@ module _ (program : Program) (formed : Formed program) (n : ℕ) (h : nodes prog
 pub record Passes (table : List ℕ) : Type 0 where
   pub header : headerFits table ≡ true
   pub sized : Exact table
+  pub unflagged : wordAt table 1 % 2 ^ (32 - variables (decode table)) ≡ 0
   pub procedure : Passed (procedureFits table) (procedures (decode table))
   pub known : Passed (kindKnown (decode table)) (nodes (decode table))
+  pub unnamed : Passed (λ n. unnamedZero (nodeAt (decode table) n)) (nodes (decode table))
   pub fits : Passed (nodeFits (decode table)) (nodes (decode table))
   pub statement : Passed (λ p. isStatement (decode table) (body (decode table) p)) (procedures (decode table))
   pub once : Passed (usedOnce (decode table)) (nodes (decode table))
@@ -101,8 +104,10 @@ passes table e =
     record {
       header = ask-holds 3 _ (then-first (question3 table) _ after2);
       sized = eqb-true _ _ (ask-holds 4 _ (then-first (question4 table) _ after3));
+      unflagged = eqb-true _ _ (ask-holds 5 _ (then-first (question5 table) _ after4));
       procedure = each-passed 6 _ _ (then-first (question6 table) _ after5);
       known = each-passed 7 _ _ (then-first (question7 (decode table)) _ after6);
+      unnamed = each-passed 8 _ _ (then-first (question8 (decode table)) _ after7);
       fits = each-passed 9 _ _ (then-first (question9 (decode table)) _ after8);
       statement = each-passed 10 _ _ (then-first (question10 (decode table)) _ after9);
       once = each-passed 11 _ _ (then-first (question11 (decode table)) _ after10);

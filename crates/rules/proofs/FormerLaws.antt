@@ -55,13 +55,13 @@ judged-as-before table scratch plain =
 
 -- fewer nodes that count
 
-implies-or : (a b c d : Bool) → (a ≡ true → c ≡ true) → (b ≡ true → d ≡ true) → (a || b) ≡ true → (c || d) ≡ true
+pub implies-or : (a b c d : Bool) → (a ≡ true → c ≡ true) → (b ≡ true → d ≡ true) → (a || b) ≡ true → (c || d) ≡ true
 implies-or true b c d f g e = simp (f refl)
 implies-or false b true d f g e = refl
 implies-or false b false d f g e = g e
 
 -- a rule that held with what was counted holds with what is left of it
-still-if : (s a b c d : Bool) → (a ≡ true → c ≡ true) → (b ≡ true → d ≡ true) → (s || (not c && not d)) ≡ true
+pub still-if : (s a b c d : Bool) → (a ≡ true → c ≡ true) → (b ≡ true → d ≡ true) → (s || (not c && not d)) ≡ true
     → (s || (not a && not b)) ≡ true
 still-if true a b c d f g e = refl
 still-if false true b c d f g e = simp (f refl) at e
@@ -69,7 +69,7 @@ still-if false false true true d f g e = e
 still-if false false true false d f g e = simp (g refl) at e
 still-if false false false c d f g e = refl
 
-still-while : (s l m a c : Bool) → (l ≡ true → m ≡ true) → (a ≡ true → c ≡ true) → ((s && not m) || not c) ≡ true
+pub still-while : (s l m a c : Bool) → (l ≡ true → m ≡ true) → (a ≡ true → c ≡ true) → ((s && not m) || not c) ≡ true
     → ((s && not l) || not a) ≡ true
 still-while true false m a c f g e = refl
 still-while true true m false c f g e = refl
@@ -77,7 +77,7 @@ still-while true true m true c f g e = simp (f refl, g refl) at e
 still-while false l m false c f g e = refl
 still-while false l m true c f g e = simp (g refl) at e
 
-still-flagged : (a c flag : Bool) → (a ≡ true → c ≡ true) → (not c || flag) ≡ true → (not a || flag) ≡ true
+pub still-flagged : (a c flag : Bool) → (a ≡ true → c ≡ true) → (not c || flag) ≡ true → (not a || flag) ≡ true
 still-flagged false c flag f e = refl
 still-flagged true c flag f e = simp (f refl) at e
 

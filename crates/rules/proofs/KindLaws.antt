@@ -50,6 +50,10 @@ module _ (m : Node) where
   pub operation-of : 6 ≤ m .kind → m .kind ≤ 12 → expressionOf m ≡ operation (operatorAt (m .kind - 6)) (m .a) (m .b)
   operation-of h k = operation-at (m .kind - 6) (omega arith) (omega arith)
 
+  pub nothing-of : m .kind ≡ 16 → statementOf m ≡ nothing
+  unfolding statementOf
+  nothing-of e = rw e
+
   pub assign-of : m .kind ≡ 17 → statementOf m ≡ assign (m .a) (m .b)
   unfolding statementOf
   assign-of e = rw e

@@ -13,13 +13,13 @@ use Rattle.rules.specs.Evaluation.{Environment, value}
 use Rattle.rules.specs.Judgement.{Fixing, fixed, unfixed, fixing, neverTaken, deadIn, live, counted, effectOf, effect, holdsLeave}
 use Rattle.rules.specs.Table.{Program, procedures, nodes, body, expressionAt, statementAt, isLeave}
 use Rattle.rules.specs.Table.{Statement, nothing, assign, sequence, branch, loop, call, latch, collective, leave}
-use Rattle.rules.specs.WellFormed.{statementFits, expressionParts, statementParts, partsAt, joined, uses, occurrences, inTree}
+use Rattle.rules.specs.WellFormed.{statementFits, expressionParts, statementParts, partsAt, occurrences, inTree}
 use Rattle.rules.proofs.AnywhereLaws.{In, Above, stands-down, stands-above}
 use Rattle.rules.proofs.ChoiceLaws.{bool-cases, all-true, all-at}
 use Rattle.rules.proofs.FixedLaws.{fixed-value-in}
 use Rattle.rules.proofs.Formed.{Formed}
-use Rattle.rules.proofs.LoopLaws.{failing, by-open, open-part}
-use Rattle.rules.proofs.LoopLaws.{counted-append, joined-one, named-below, one-name, part-no-body, statement-part, body-part}
+use Rattle.rules.proofs.LoopLaws.{failing, by-open, open-part, counted-append, uses-counted, joined-one, named-below}
+use Rattle.rules.proofs.LoopLaws.{one-name, part-no-body, statement-part, body-part}
 use Rattle.rules.proofs.PartLaws.{part-low, tree-self}
 use Rattle.rules.proofs.ValueLaws.{effect-here}
 
@@ -68,7 +68,7 @@ module _ (program : Program) (formed : Formed program) where
   branch-parts k a b c true s = statement-part program formed k b (rw s (inr (inl refl)))
   branch-parts k a b c false s = statement-part program formed k c (rw s (inr (inr (inl refl))))
 
-  never-part : (k d : ℕ) → Never k d → Part d k
+  pub never-part : (k d : ℕ) → Never k d → Part d k
   never-part k d n =
       subst (λ x. Part x k) (sym (n .never)) (branch-parts k (n .condition) (n .first) (n .second) (eqb (n .held) 0) (n .is))
 
@@ -189,16 +189,15 @@ module _ (program : Program) (formed : Formed program) where
   twice x a b c e f = rw (eq-eqb b x (sym e), eq-eqb c x (sym f)) (omega arith)
 
   pub branches-differ : (n a b c : ℕ) → statementAt program n ≡ branch a b c → b ≡ c → ⊥
-  unfolding statementParts uses partsAt
+  unfolding statementParts partsAt
   branches-differ n a b c s e =
       let part : Part b n = statement-part program formed n b (rw s (inr (inl refl))) in
       let l = named-below program formed n b part in
       let low = part-low program formed n b part in
       let once = formed .used-once b (omega arith) in
-      let split = counted-append (joined (partsAt program) (nodes program)) (joined (λ p. body program p ∷ []) (procedures program)) b in
       let here = counted-append (expressionParts (expressionAt program n)) (statementParts (statementAt program n)) b in
       let two : 2 ≤ occurrences b (statementParts (statementAt program n)) = rw s (twice b a b c refl e) in
-      omega (arith, joined-one (partsAt program) b (nodes program) n l)
+      omega (arith, uses-counted program b, joined-one (partsAt program) b (nodes program) n l)
 
   -- the branch that a process takes
   module _ (n a b c : ℕ) (env : Environment) (s : statementAt program n ≡ branch a b c) (h : live program n ≡ true) where

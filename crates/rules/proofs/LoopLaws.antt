@@ -55,6 +55,14 @@ module _ (list : ℕ → List ℕ) (a : ℕ) where
         | no m ↦ let e : k ≡ n = omega arith in rw e (omega (arith, joined-one n j (omega arith)))
       ]
 
+-- a use is one as a part or one as a body
+pub uses-counted : (program : Program) (a : ℕ) → occurrences a (uses program)
+    ≡ occurrences a (joined (partsAt program) (nodes program))
+    + occurrences a (joined (λ p. body program p ∷ []) (procedures program))
+unfolding uses
+uses-counted program a =
+    counted-append (joined (partsAt program) (nodes program)) (joined (λ p. body program p ∷ []) (procedures program)) a
+
 -- the parts that stand in the same while are parts
 open-parts : (s : Statement) (a : ℕ) → In a (openParts s) → In a (statementParts s)
 unfolding openParts statementParts
@@ -104,14 +112,13 @@ module _ (program : Program) (formed : Formed program) where
 
   -- a part is named by one node, and is no procedure's body
   named-twice : (m n a : ℕ) → m < n → In a (partsAt program m) → In a (partsAt program n) → ⊥
-  unfolding uses
   named-twice m n a h i j =
       let l = named-below n a j in
       let low = part-low program formed n a j in
       let once = formed .used-once a (omega arith) in
-      let split = counted-append (joined (partsAt program) (nodes program)) (joined (λ p. body program p ∷ []) (procedures program)) a in
       omega (
         arith,
+        uses-counted program a,
         joined-two (partsAt program) a (nodes program) m n h l,
         in-counted (partsAt program m) a i,
         in-counted (partsAt program n) a j,
@@ -129,17 +136,28 @@ module _ (program : Program) (formed : Formed program) where
       ]
 
   pub part-no-body : (n p : ℕ) → p < procedures program → In (body program p) (partsAt program n) → ⊥
-  unfolding uses
   part-no-body n p h i =
       let once = formed .used-once (body program p) (formed .body-below p h) in
-      let split =
-      counted-append (joined (partsAt program) (nodes program)) (joined (λ q. body program q ∷ []) (procedures program)) (body program p) in
       omega (
         arith,
+        uses-counted program (body program p),
         joined-one (partsAt program) (body program p) (nodes program) n (named-below n (body program p) i),
         in-counted (partsAt program n) (body program p) i,
         joined-one (λ q. body program q ∷ []) (body program p) (procedures program) p h,
         in-counted (body program p ∷ []) (body program p) (inl refl),
+      )
+
+  -- two procedures have two bodies
+  pub one-body : (p q : ℕ) → p < q → q < procedures program → body program p ≡ body program q → ⊥
+  one-body p q h l e =
+      let a = body program q in
+      let once = formed .used-once a (formed .body-below q l) in
+      omega (
+        arith,
+        uses-counted program a,
+        joined-two (λ r. body program r ∷ []) a (procedures program) p q h l,
+        in-counted (body program p ∷ []) a (inl (sym e)),
+        in-counted (body program q ∷ []) a (inl refl),
       )
 
   -- a test that holds openly

@@ -37,9 +37,9 @@ module _ (table : List ℕ) (bytes : Bytes table) (i : ℕ) where
   byte-of-word (suc (suc (suc (suc j)))) h = absurd (omega arith)
 
 -- the fields of a word, put together again
-packed-unpacked : (w : ℕ) → w < 2 ^ 32 → packed (unpacked w) ≡ w
+pub packed-unpacked : (w : ℕ) → packed (unpacked w) ≡ w
 unfolding packed unpacked
-packed-unpacked w h =
+packed-unpacked w =
     let x = div-div-eq-div-mul w (2 ^ 9) (2 ^ 9) in
     let y = div-div-eq-div-mul w (2 ^ 18) (2 ^ 9) in
     omega (arith, x, y)
@@ -76,33 +76,35 @@ flag-parts w h flag is (suc n) l =
     ap (λ k. w / 2 ^ k) power ∙ (ap (λ k. w / k) twice ∙ sym (div-div-eq-div-mul w (2 ^ (31 - n)) 2)) in
     rw next (omega (arith, flag-parts w h flag is n (omega arith), half, is n (omega arith)))
 
-module _ (table : List ℕ) (bytes : Bytes table) (q : Passes table) where
+-- each word that a table says is the word of the table
+module _ (table : List ℕ) (q : Passes table) where
   word-0 : headerWord (decode table) ≡ wordAt table 0
   unfolding headerWord decode variables procedures nodes edition
   word-0 = let word = header table (q .header) in header-parts (wordAt table 0) (word .first-edition) (word .rest-zero)
 
-  word-1 : flagBits (flagged (decode table)) 32 ≡ wordAt table 1
+  pub word-1 : wordAt table 1 < 2 ^ 32 → flagBits (flagged (decode table)) 32 ≡ wordAt table 1
   unfolding decode flagged
-  word-1 =
+  word-1 h =
       let w = wordAt table 1 in
-      flag-parts w (word-fits table bytes 1) (flagged (decode table))
+      flag-parts w h (flagged (decode table))
       (λ a l. simp (lt-ltb a 32 l) (bit-eqb (w / 2 ^ (31 - a) % 2) (omega arith))) 32 (omega arith)
       ∙ omega arith
 
-  word-procedure : (p : ℕ) → p < procedures (decode table)
+  pub word-procedure : (p : ℕ) → p < procedures (decode table)
       → bodyWord (body (decode table) p) (effectFlag (decode table) p) ≡ wordAt table (2 + p)
   unfolding bodyWord decode body effectFlag procedures procedureWord procedureFits
   word-procedure p l =
       simp (lt-ltb p _ l) (body-parts (wordAt table (2 + p)) (eqb-true _ _ (both-left _ _ (q .procedure p l))))
 
-  word-node : (n : ℕ) → packed (nodeAt (decode table) n) ≡ wordAt table (2 + procedures (decode table) + n)
-  unfolding decode nodeAt procedures
-  word-node n = packed-unpacked _ (word-fits table bytes _)
+pub word-node : (table : List ℕ) (n : ℕ) → packed (nodeAt (decode table) n) ≡ wordAt table (2 + procedures (decode table) + n)
+unfolding decode nodeAt procedures
+word-node table n = packed-unpacked _
 
+module _ (table : List ℕ) (bytes : Bytes table) (q : Passes table) where
   first-two : (i : ℕ) → i < 2 → wordOf (decode table) i ≡ wordAt table i
   unfolding wordOf
-  first-two zero l = word-0
-  first-two (suc zero) l = word-1
+  first-two zero l = word-0 table q
+  first-two (suc zero) l = word-1 table q (word-fits table bytes 1)
   first-two (suc (suc i)) l = absurd (omega arith)
 
   word-same : (i : ℕ) → wordOf (decode table) i ≡ wordAt table i
@@ -113,11 +115,11 @@ module _ (table : List ℕ) (bytes : Bytes table) (q : Passes table) where
             elim (decLt (i - 2) (procedures (decode table))) [
               | yes l ↦
                   let e : i ≡ 2 + (i - 2) = omega arith in
-                  rw e (word-of-procedure (decode table) (i - 2) l ∙ word-procedure (i - 2) l)
+                  rw e (word-of-procedure (decode table) (i - 2) l ∙ word-procedure table q (i - 2) l)
               | no g ↦
                   let n = i - 2 - procedures (decode table) in
                   let e : i ≡ 2 + procedures (decode table) + n = omega arith in
-                  rw e (word-of-node (decode table) n ∙ word-node n)
+                  rw e (word-of-node (decode table) n ∙ word-node table n)
             ]
       ]
 

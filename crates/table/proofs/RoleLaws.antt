@@ -16,11 +16,11 @@ use Rattle.rules.specs.WellFormed.{expressionParts, statementParts, partsAt}
 use Rattle.table.specs.Roles.{roles, roleOf, fieldZero, fieldFits, fieldParts}
 
 -- the kinds that the roles list: 0 to 26
-abbrev listed : ℕ
+abbrev pub listed : ℕ
 listed = 27
 
 -- P holds of each kind listed, and of those above, so of every kind
-data Each (P : ℕ → Type 0) : ℕ → Type 0 where
+pub data Each (P : ℕ → Type 0) : ℕ → Type 0 where
   none : Each P zero
   _also_ : {n : ℕ} → Each P n → P n → Each P (suc n)
 
@@ -30,10 +30,10 @@ each-below P zero none k l = absurd (omega arith)
 each-below P (suc n) (earlier also here) k l =
     elim (decLt k n) [ yes m ↦ each-below P n earlier k m | no m ↦ let e : k ≡ n = omega arith in rw e here ]
 
-each-kind : (P : ℕ → Type 0) → Each P listed → ((k : ℕ) → listed ≤ k → P k) → (k : ℕ) → P k
+pub each-kind : (P : ℕ → Type 0) → Each P listed → ((k : ℕ) → listed ≤ k → P k) → (k : ℕ) → P k
 each-kind P known unknown k = elim (decLt k listed) [ yes l ↦ each-below P listed known k l | no m ↦ unknown k (omega arith) ]
 
-abbrev node : ℕ → ℕ → ℕ → ℕ → Node
+abbrev pub node : ℕ → ℕ → ℕ → ℕ → Node
 node k a b c = record { kind = k; a = a; b = b; c = c }
 
 -- an unknown kind names nothing
@@ -45,11 +45,11 @@ unfolding thirteen
 thirteen-more k h = omega arith
 
 module _ (k a b c : ℕ) (h : listed ≤ k) where
-  expression-unknown : expressionOf (node k a b c) ≡ constant 0
+  pub expression-unknown : expressionOf (node k a b c) ≡ constant 0
   unfolding expressionOf thirteen
   expression-unknown = rw (thirteen-more k (omega arith))
 
-  statement-unknown : statementOf (node k a b c) ≡ nothing
+  pub statement-unknown : statementOf (node k a b c) ≡ nothing
   unfolding statementOf
   statement-unknown =
       let e : k - 16 ≡ suc (suc (suc (suc (suc (suc (suc (suc (suc (suc (suc (k - listed))))))))))) = omega arith in rw e
