@@ -45,7 +45,7 @@ unfolding opened single-under-local
 single-under-local-refused = refl
 
 -- an exchange and 127 barriers in sequence: 256 nodes
-barriers : ℕ → List ℕ
+unfoldable pub barriers : ℕ → List ℕ
 barriers zero = []
 barriers (suc k) = barriers k ++ (0xB8000000 ∷ (0x90000000 + (2 * k + 1) * 2 ^ 18 + (2 * k + 2) * 2 ^ 9) ∷ [])
 

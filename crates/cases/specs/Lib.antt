@@ -1,4 +1,5 @@
--- Cases of the checker, of runs and of served turns, each by computation from the words of a table.
+-- Cases of the checker, of runs, of served turns and of joining, each by computation from the words of a table.
 pub mod Checked
 pub mod Played
 pub mod Served
+pub mod Joined
