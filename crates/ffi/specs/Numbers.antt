@@ -3,6 +3,8 @@ use mathlib.Core.List.{List, _++_}
 use mathlib.Core.Path.{_≡_}
 use Prim.Native.Nat.{ℕ, _+_, _*_, _^_, min}
 use lib.ListN.{length, take, drop}
+use Rattle.linker.specs.declared.Link.{Link}
+use Rattle.linker.specs.declared.Link.the-variants.{Joined, OfLibrary, OfProgram}
 use Rattle.rules.specs.Answers.{eventNumber, eventNode, teamNumber}
 use Rattle.rules.specs.declared.Stepped.{Stepped}
 use Rattle.rules.specs.declared.Stepped.the-variants.{Taken, Refused}
@@ -11,6 +13,7 @@ use Rattle.rules.specs.declared.Verdict.the-variants.{Accepted, Refused as Fail
 use Rattle.rules.specs.Scheduling.{Served}
 use Rattle.rules.specs.Start.{Started}
 use Rattle.rules.specs.Step.{Outcome}
+use Rattle.ffi.specs.declared.FcLink.{FcLink}
 use Rattle.ffi.specs.declared.FcServe.{FcServe}
 use Rattle.ffi.specs.declared.FcStep.{FcStep}
 
@@ -53,6 +56,12 @@ pub record ServeNumbers (end : Served) (numbers : FcServe) (state roll : List �
   pub answered : numbers ≡ refusalNumbers (end .made) (end .last) (end .answer)
   pub left : state ≡ end .state
   pub written : roll ≡ end .roll
+
+-- number 0 for a joined table; a refusal says which table, 0 for the library and 1 for the program
+abbrev pub linkNumbers : Link → FcLink
+linkNumbers Joined = record { number = 0; place = 0; table = 0 }
+linkNumbers (OfLibrary r) = record { number = r .number; place = r .place; table = 0 }
+linkNumbers (OfProgram r) = record { number = r .number; place = r .place; table = 1 }
 
 -- how many of the words fit the place lent for them, and that place after the copy
 abbrev pub copiedCount : List ℕ → List ℕ → ℕ

@@ -4,14 +4,18 @@ ghost use mathlib.Core.Path.{_≡_};
 ghost use mathlib.Core.List.{_++_};
 ghost use Prim.Native.Nat.{_≤_};
 ghost use lib.ListN.{length, take, drop};
+ghost use Rattle.linker.specs.Linking.{linkAnswer, linkOutput, joinedLength};
 ghost use Rattle.rules.specs.Acceptance.{checked, checkedScratch};
 ghost use Rattle.rules.specs.Answers.{eventNumber, teamNumber};
 ghost use Rattle.rules.specs.Scheduling.{served};
 ghost use Rattle.rules.specs.Start.{started, latchesOf};
 ghost use Rattle.rules.specs.Step.{stepped};
-ghost use Rattle.ffi.specs.Numbers.{verdictNumber, stepNumbers, refusalNumbers, copiedCount, copied};
+ghost use Rattle.ffi.specs.Numbers.{verdictNumber, stepNumbers, refusalNumbers, linkNumbers, copiedCount, copied};
 ghost use Rattle.ffi.specs.Numbers.{StartNumbers, StepNumbers, ServeNumbers};
 use checker::check;
+use linker::Link;
+use linker::joined_length;
+use linker::link_tables;
 use machine::team;
 use rules::Event;
 use rules::Stepped;
@@ -38,6 +42,14 @@ pub struct FcServe {
     pub last: u32,
     pub number: u32,
     pub place: u32,
+}
+
+// The answer to a joining. `number` 0: joined. `table` 0: of the library, 1: of the program.
+#[repr(C)]
+pub struct FcLink {
+    pub number: u32,
+    pub place: u32,
+    pub table: u32,
 }
 
 fn verdict_number(verdict: Verdict) -> u64
@@ -119,6 +131,28 @@ fn serve_numbers(service: Service) -> FcServe
     }
 }
 
+fn link_numbers(link: Link) -> FcLink
+    ensures { λ r. ⌜ r ≡ linkNumbers link ⌝ }
+{
+    match link {
+        Link::Joined => FcLink {
+            number: 0,
+            place: 0,
+            table: 0,
+        },
+        Link::OfLibrary(refusal) => FcLink {
+            number: refusal.number,
+            place: refusal.place,
+            table: 0,
+        },
+        Link::OfProgram(refusal) => FcLink {
+            number: refusal.number,
+            place: refusal.place,
+            table: 1,
+        },
+    }
+}
+
 fn copy_first(words: &[u32], out: &mut [u32], n: usize)
     requires { ⌜ (n ≤ length (now words)) × (n ≤ length (now out)) ⌝ }
     ensures { λ _. ⌜ now (out .exit) ≡ take n (now (words .entry)) ++ drop n (now (out .entry)) ⌝ }
@@ -189,4 +223,21 @@ pub extern "C" fn fc_latches(state: &[u32], process: u32, out: &mut [u32]) -> u3
     let n = lesser(latches.len(), out.len());
     copy_first(latches, out, n);
     n as u32
+}
+
+// A library joined to a program, in an output of exactly the joined length.
+#[no_mangle]
+pub extern "C" fn fc_link(library: &[u8], program: &[u8], out: &mut [u8]) -> FcLink
+    ensures { λ r. ⌜ (r ≡ linkNumbers (linkAnswer (now (library .entry)) (now (program .entry)) (now (out .entry))))
+        × (now (out .exit) ≡ linkOutput (now (library .entry)) (now (program .entry)) (now (out .entry))) ⌝ }
+{
+    link_numbers(link_tables(library, program, out))
+}
+
+// The joined length; 0 where the two cannot be joined.
+#[no_mangle]
+pub extern "C" fn fc_joined_length(library: &[u8], program: &[u8]) -> u32
+    ensures { λ r. ⌜ r ≡ joinedLength (now (library .entry)) (now (program .entry)) ⌝ }
+{
+    joined_length(library, program) as u32
 }

@@ -1,6 +1,6 @@
-// The input of the programs that take a team: a word L, L table bytes, words that each program names, and start words. Which
-// part of the bytes is which is said in rules/specs/Input.antt. As there, parts are cut out of any bytes, and past the end of them
-// all is 0: question 25 is asked once, and no part asks again.
+// The input of the programs that read more than a table: a word L, L table bytes, words that each program names, and what stands
+// behind them. Which part of the bytes is which is said in rules/specs/Input.antt. As there, parts are cut out of any bytes, and
+// past the end of them all is 0: question 25 is asked once, and no part asks again.
 ghost use mathlib.Core.List.{_∷_, [], _++_};
 ghost use mathlib.Core.Path.{_≡_};
 ghost use Prim.Native.Nat.{_*_, _/_, _≤_, min};
@@ -22,10 +22,12 @@ const MOST_INPUT_BYTES: usize = 32768;
 
 pub const INPUT_WORDS: usize = MOST_INPUT_BYTES / 4;
 
-// The words behind the table: a run's number of banks; a serve's, with the last bank and the number of turns.
+// The words behind the table: a run's number of banks; a serve's, with the last bank and the number of turns; none behind a library.
 pub const RUN_BEHIND: u32 = 1;
 
 pub const SERVE_BEHIND: u32 = 3;
+
+pub const LIBRARY_BEHIND: u32 = 0;
 
 // A byte more, so that longer input shows.
 pub const INPUT_BYTES: usize = MOST_INPUT_BYTES + 1;
@@ -84,7 +86,7 @@ fn end_behind(input: &[u8], words: u32) -> usize
 }
 
 // What stands behind the table and so many words.
-fn behind(input: &[u8], words: u32) -> &[u8]
+pub fn behind(input: &[u8], words: u32) -> &[u8]
     ensures { λ r. ⌜ now r ≡ behind words (now (input .entry)) ⌝ }
 {
     rest(input, end_behind(input, words))

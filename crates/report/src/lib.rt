@@ -1,4 +1,4 @@
-// What the three programs print: the paper's words, on standard output.
+// What the programs print: the paper's words, on standard output.
 ghost use mathlib.Core.Path.{_≡_};
 ghost use Prim.Native.Nat.{_≤_};
 ghost use lib.ListN.{take};
@@ -25,12 +25,32 @@ pub fn accepted() {
 }
 
 // "refused 15 3 (number, place)"
-pub fn refusal(r: Refusal) {
+fn refused(r: Refusal) {
     text(b"refused ");
     number(r.number);
     text(b" ");
     number(r.place);
+}
+
+pub fn refusal(r: Refusal) {
+    refused(r);
     text(b"\n");
+}
+
+// A refusal with the table that it is about.
+pub fn refusal_of_library(r: Refusal) {
+    refused(r);
+    text(b" library\n");
+}
+
+pub fn refusal_of_program(r: Refusal) {
+    refused(r);
+    text(b" program\n");
+}
+
+// A table as it is.
+pub fn table(bytes: &[u8]) {
+    text(bytes);
 }
 
 // The line above the first turn.
