@@ -1,5 +1,6 @@
 /*
- * Finchchaise: a proved checker of site tables and a machine that runs them.
+ * Finchchaise: a proved checker of site tables, a machine that runs them and a linker that joins
+ * one to another.
  *
  * Link with target/staticlib/libffi.a, which `rt staticlib ffi` writes (x86-64). The library has no
  * memory of its own: it allocates nothing and keeps nothing between calls, so calls on different
@@ -8,7 +9,7 @@
  *
  * What the caller owes, as in C: each pointer leads to as many bytes or words as the length beside
  * it says (the pointer of an empty buffer is not followed), words are aligned, and a buffer that is
- * not const overlaps no other buffer of the call. Lengths are in bytes for a table, otherwise in
+ * not const overlaps no other buffer of the call. Lengths are in bytes for tables, otherwise in
  * 32-bit words.
  *
  * In these comments a process is the rules paper's bank, a team its site, a step its turn, a
@@ -106,6 +107,19 @@ typedef struct FcServe {
     uint32_t place;
 } FcServe;
 
+/* A table of a link: FcLink.table. */
+enum { FC_LIBRARY = 0, FC_PROGRAM = 1 };
+
+/*
+ * The answer to fc_link. The tables were joined if number is 0, and place and table are then 0 too.
+ * Otherwise number and place are the refusal, and table says of which table the question was asked.
+ */
+typedef struct FcLink {
+    uint32_t number;
+    uint32_t place;
+    uint32_t table;
+} FcLink;
+
 /*
  * An answer of fc_check and fc_start is 0, or for a refusal its number times 2^32 plus its place.
  * Numbers begin with 1, so a refusal is never 0.
@@ -164,6 +178,26 @@ FcServe fc_serve(const uint8_t *table, size_t table_length, uint32_t *state, siz
  */
 uint32_t fc_latches(const uint32_t *state, size_t state_length, uint32_t process, uint32_t *out,
                     size_t out_length);
+
+/*
+ * Joins a library, which is a table too, to a program. The program begins with stubs (the paper's
+ * stand-ins), one for each of the library's procedures, and the joined table has the library's
+ * procedures and nodes in their place. Variables are shared by number.
+ *
+ * Numbers of a refusal: 2 to 12 and 26 of the library, then of the program, then 27 to 29, which
+ * are the program's. It asks that the tables are well formed, and not that the checker accepts them;
+ * if it does, it accepts the joined one. 29 also says that out has not exactly the joined table's
+ * length. A taken link writes every byte of out, a refused one none.
+ */
+FcLink fc_link(const uint8_t *library, size_t library_length, const uint8_t *program,
+               size_t program_length, uint8_t *out, size_t out_length);
+
+/*
+ * The joined table's length in bytes, at most FC_MOST_TABLE_BYTES. It is 0 if fc_link refuses the
+ * two tables whatever the output.
+ */
+uint32_t fc_joined_length(const uint8_t *library, size_t library_length, const uint8_t *program,
+                          size_t program_length);
 
 #ifdef __cplusplus
 }

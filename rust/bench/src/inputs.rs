@@ -38,9 +38,21 @@ pub fn table_with(
     piece: Piece,
     body: impl Fn(&mut Builder, usize, usize) -> (u32, bool),
 ) -> Builder {
-    let mut table = Builder::new(VARIABLES as u32, &[SINGLE]);
+    let begun = Builder::new(VARIABLES as u32, &[SINGLE]);
+    completed(begun, nodes, procedures, piece, body)
+}
+
+/// The same, with so many more nodes and procedures than there are.
+fn completed(
+    mut table: Builder,
+    nodes: usize,
+    procedures: usize,
+    piece: Piece,
+    body: impl Fn(&mut Builder, usize, usize) -> (u32, bool),
+) -> Builder {
+    let first = table.nodes.len();
     for number in 1..=procedures {
-        let share = nodes * number / procedures - table.nodes.len();
+        let share = first + nodes * number / procedures - table.nodes.len();
         let (body, effect) = match number == procedures && share > 2 {
             true => (endless(&mut table, share, piece), true),
             false => body(&mut table, share, number),
@@ -48,6 +60,24 @@ pub fn table_with(
         table.procedure(body, effect);
     }
     table
+}
+
+/// An accepted table with this many nodes that begins with stubs for a library, and has as many
+/// procedures of its own.
+pub fn program_for(library: &Builder, nodes: usize) -> Builder {
+    let mut begun = Builder::new(library.variables, &library.single);
+    for &(_, effect) in &library.procedures {
+        let stub = begun.nothing();
+        begun.procedure(stub, effect);
+    }
+    let stubs = begun.procedures.len();
+    completed(
+        begun,
+        nodes - stubs,
+        stubs,
+        piece,
+        |table, share, number| (filled(table, share, number, piece), true),
+    )
 }
 
 /// An accepted table of statements only: one procedure, a row of so many that do nothing.

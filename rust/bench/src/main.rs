@@ -81,9 +81,9 @@ fn print_notes() {
     println!("step that completes an exchange both sides put stacks and roll back, which is timed");
     println!("with it. Answers and words were compared first. A table word's time is that of one");
     println!(
-        "call, shared among the table's words; a whole stocktake has a call for its start and"
+        "call, shared among the table's words, those of both for a join; a whole stocktake has"
     );
-    println!("one for each step.");
+    println!("a call for its start and one for each step.");
     println!("Of steps: the library's time, divided by its time for the same turns, a call each.");
     println!("A refused table is an accepted one with a word changed. Of accepted: the library's");
     println!("time, divided by its time for that one.");

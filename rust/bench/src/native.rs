@@ -2,6 +2,7 @@
 //! or in one more where switches may save it, and state and roll are changed in place.
 
 mod leaves;
+mod linker;
 mod machine;
 mod planes;
 mod reader;
@@ -10,6 +11,7 @@ mod scheduler;
 mod switches;
 mod table;
 
+pub use linker::link;
 pub use machine::{start, step};
 pub use reader::check;
 pub use scheduler::serve;

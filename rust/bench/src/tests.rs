@@ -1,5 +1,6 @@
 //! The plain Rust answers as the library does, also on tables and states that are not timed.
 
+mod linking;
 mod switches;
 
 use crate::refused::{self, Refused};

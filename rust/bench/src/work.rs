@@ -3,7 +3,7 @@
 
 use crate::refused::{self, Refused, FULL, MIXED, STATEMENTS, SWITCHED};
 use crate::{inputs, native, switched};
-use finchchaise::{Answer, Event, Refusal, Served, TeamStatus, MOST_PROCESSES};
+use finchchaise::{Answer, Event, LinkRefusal, Refusal, Served, TeamStatus, MOST_PROCESSES};
 use finchchaise::{DEPTH_AT, DOORS, PROCESS_WORDS, ROLL_WORDS, SCRATCH_WORDS, STACK, STACK_AT};
 use finchchaise_samples::stocktake;
 
@@ -11,6 +11,7 @@ const STOCKTAKE_VARIABLES: usize = 4;
 const EXCHANGE: u8 = 25;
 const RUNNING: u32 = 0;
 const WAITING: u32 = 1;
+const LIBRARY_PROCEDURES: usize = 8;
 /// Turns that a call serves, and steps that they are compared with.
 const TURNS: u32 = 1_000;
 
@@ -18,14 +19,16 @@ type Check = fn(&[u8], &mut [u32]) -> Result<(), Refusal>;
 type Start = fn(&[u8], u32, &[u32], &mut [u32], &mut [u32]) -> Result<(), Refusal>;
 type Step = fn(&[u8], &mut [u32], &mut [u32], u32) -> Result<Answer, Refusal>;
 type Serve = fn(&[u8], &mut [u32], &mut [u32], u32, u32) -> Served;
+type Link = fn(&[u8], &[u8], &mut [u8]) -> Result<(), LinkRefusal>;
 
-/// The four calls, of either side.
+/// The five calls, of either side.
 #[derive(Clone, Copy)]
 pub struct Side {
     check: Check,
     start: Start,
     step: Step,
     serve: Serve,
+    link: Link,
 }
 
 pub const LIBRARY: Side = Side {
@@ -33,6 +36,7 @@ pub const LIBRARY: Side = Side {
     start: finchchaise::start,
     step: finchchaise::step,
     serve: finchchaise::serve,
+    link: finchchaise::link,
 };
 
 pub const NATIVE: Side = Side {
@@ -40,6 +44,7 @@ pub const NATIVE: Side = Side {
     start: native::start,
     step: native::step,
     serve: native::serve,
+    link: native::link,
 };
 
 #[derive(Clone, Copy, Debug, PartialEq)]
@@ -57,6 +62,8 @@ enum Task {
     Serve,
     /// The same turns, in a call each.
     Steps,
+    /// A library joined to the table.
+    Join,
 }
 
 #[derive(Clone, Debug, PartialEq)]
@@ -64,6 +71,9 @@ pub struct Work {
     pub what: String,
     task: Task,
     table: Vec<u8>,
+    /// What is joined to the table, and the output for it, if that is the task.
+    library: Vec<u8>,
+    joined: Vec<u8>,
     /// The question that the table fails first, and the check that it is compared with.
     pub refused_by: Option<(u32, &'static str)>,
     processes: u32,
@@ -80,6 +90,7 @@ pub struct Work {
     checked: Result<(), Refusal>,
     stepped: Option<Result<Answer, Refusal>>,
     served: Option<Served>,
+    linked: Option<Result<(), LinkRefusal>>,
 }
 
 /// All that is timed, in the order in which it is printed.
@@ -99,6 +110,7 @@ pub fn all() -> Vec<Work> {
     all.push(Work::step_left_early());
     all.push(Work::idle());
     all.extend([2, 4, 16].map(Work::run));
+    all.extend([32, 64, 128].map(Work::join));
     for (nodes, procedures, processes) in [(16, 1, 16), (256, 16, 4), (256, 16, 16)] {
         all.extend(Work::turns(nodes, procedures, processes));
     }
@@ -119,6 +131,8 @@ impl Work {
             what,
             task,
             table,
+            library: Vec::new(),
+            joined: Vec::new(),
             refused_by: None,
             processes,
             exchange: 0,
@@ -131,6 +145,7 @@ impl Work {
             checked: Ok(()),
             stepped: None,
             served: None,
+            linked: None,
         }
     }
 
@@ -250,6 +265,23 @@ impl Work {
         Work::new(what, Task::Run, stocktake(), STOCKTAKE_VARIABLES, processes)
     }
 
+    /// Of two tables with so many nodes each; half of the program's procedures are stubs.
+    fn join(nodes: usize) -> Work {
+        let library = inputs::table(nodes, LIBRARY_PROCEDURES);
+        let program = inputs::program_for(&library, nodes);
+        let what = format!(
+            "join, N {nodes} and {nodes}, P {LIBRARY_PROCEDURES} and {}",
+            program.procedures.len()
+        );
+        let (library, program) = (library.bytes(), program.bytes());
+        let length = finchchaise::joined_length(&library, &program);
+        Work {
+            joined: vec![0; length.expect("tables that fit")],
+            library,
+            ..Work::new(what, Task::Join, program, inputs::VARIABLES, 1)
+        }
+    }
+
     /// Steps, and the same turns served: the table repeats its main body for ever.
     fn turns(nodes: usize, procedures: usize, processes: u32) -> [Work; 2] {
         let size = size(nodes, procedures, processes);
@@ -275,8 +307,9 @@ impl Work {
         (&self.state, &self.roll, self.last) == (&other.state, &other.roll, other.last)
     }
 
+    /// Of all tables that a call reads.
     pub fn table_words(&self) -> usize {
-        self.table.len() / 4
+        (self.table.len() + self.library.len()) / 4
     }
 
     pub fn once(&mut self, side: Side) {
@@ -301,6 +334,10 @@ impl Work {
             }
             Task::Serve => self.serve(side),
             Task::Steps => self.take_steps(side),
+            Task::Join => {
+                self.calls += 1;
+                self.linked = Some((side.link)(&self.library, &self.table, &mut self.joined));
+            }
         }
     }
 
@@ -358,8 +395,8 @@ impl Work {
         process
     }
 
-    /// Only a refused check may be refused, and by its question, an exchange must be completed, and
-    /// all turns must be made: another call takes another time.
+    /// Only a refused check may be refused, and by its question, an exchange must be completed, all
+    /// turns must be made, and tables must be joined: another call takes another time.
     pub fn is_as_expected(&self) -> bool {
         let refused_by = self.checked.err().map(|refusal| refusal.number);
         let is_checked = refused_by == self.refused_by.map(|(number, _)| number);
@@ -375,6 +412,7 @@ impl Work {
         let is_served = self
             .served
             .is_none_or(|served| served.made == TURNS && served.refusal.is_none());
-        is_checked && is_stepped && is_served
+        let is_linked = self.linked.is_none_or(|linked| linked.is_ok());
+        is_checked && is_stepped && is_served && is_linked
     }
 }

@@ -3,32 +3,34 @@
 
 use crate::leaves::{self, leaving};
 use crate::words;
-use finchchaise::{Answer, Refusal, Served};
+use finchchaise::{Answer, LinkRefusal, Refusal, Served};
 use std::fmt::Debug;
 
 const MARGIN: usize = 3;
-const MARK: u32 = 0xFEED_F00D;
+const MARK: u8 = 0xED;
 
-/// Words lent out of the middle of a longer buffer, so that a word written beside them is seen too.
+/// Words, or bytes, lent out of the middle of a longer buffer, so that one written beside them is
+/// seen too.
 #[derive(Clone, Debug, PartialEq)]
-struct Lent(Vec<u32>);
+struct Lent<Word = u32>(Vec<Word>);
 
-impl Lent {
-    fn of(words: &[u32]) -> Lent {
-        Lent([&[MARK; MARGIN], words, &[MARK; MARGIN]].concat())
+impl<Word: Copy + PartialEq + From<u8>> Lent<Word> {
+    fn of(words: &[Word]) -> Lent<Word> {
+        let margin = [Word::from(MARK); MARGIN];
+        Lent([&margin, words, &margin].concat())
     }
 
-    fn words(&mut self) -> &mut [u32] {
+    fn words(&mut self) -> &mut [Word] {
         let end = self.0.len() - MARGIN;
         &mut self.0[MARGIN..end]
     }
 
-    fn lent(&self) -> &[u32] {
+    fn lent(&self) -> &[Word] {
         &self.0[MARGIN..self.0.len() - MARGIN]
     }
 
     /// Where the buffers first differ, counted from the first lent word, and what they hold there.
-    fn difference(&self, other: &Lent) -> Option<(isize, u32, u32)> {
+    fn difference(&self, other: &Lent<Word>) -> Option<(isize, Word, Word)> {
         let place = self.0.iter().zip(&other.0).position(|(a, b)| a != b)?;
         Some((
             place as isize - MARGIN as isize,
@@ -68,6 +70,37 @@ pub fn latches(state: &[u32], process: u32, out: &[u32]) -> usize {
         "latches of {process} in {} words, room for {}: library {answer}, model {count}",
         state.len(),
         out.len()
+    );
+    answer
+}
+
+/// What the output then holds: the joined table, or if it is refused, what it held before.
+pub fn link(library: &[u8], program: &[u8], out: &mut [u8]) -> Result<(), LinkRefusal> {
+    let (mut of_library, mut of_model) = (Lent::of(out), Lent::of(out));
+    let answer = finchchaise::link(library, program, of_library.words());
+    let expected = words::link(library, program, of_model.words());
+    assert!(
+        answer == expected && of_library == of_model,
+        "link of {} to {} with an output of {}: library {answer:?}, model {expected:?}, output \
+         differs at {:?}",
+        hexadecimal(library),
+        hexadecimal(program),
+        out.len(),
+        of_library.difference(&of_model)
+    );
+    assert!(answer.is_ok() || of_library.lent() == out);
+    out.copy_from_slice(of_library.lent());
+    answer
+}
+
+pub fn joined_length(library: &[u8], program: &[u8]) -> Option<usize> {
+    let answer = finchchaise::joined_length(library, program);
+    let expected = words::joined_length(library, program);
+    assert!(
+        answer == expected,
+        "length of {} joined to {}: library {answer:?}, model {expected:?}",
+        hexadecimal(library),
+        hexadecimal(program)
     );
     answer
 }

@@ -105,7 +105,7 @@ fn change_length(table: &mut Vec<u8>, random: &mut Random) {
     let change = random.pick(&[1, 2, 3, 4, 8, 16, 1096]);
     match random.one_in(2) {
         true => table.truncate(table.len().saturating_sub(change)),
-        false => table.extend((0..change).map(|_| random.number() as u8)),
+        false => table.extend(random.bytes(change)),
     }
 }
 
@@ -179,7 +179,7 @@ pub fn random_bytes(random: &mut Random) -> Vec<u8> {
         1 => random.pick(&[0, 4, 12, 15, 16, 17, 20, 1092, 1096, 1100]),
         _ => 4 * random.from(4, 40),
     };
-    let mut bytes: Vec<u8> = (0..length).map(|_| random.number() as u8).collect();
+    let mut bytes = random.bytes(length);
     if random.one_in(2) && (16..=1096).contains(&length) {
         begin_as_table(&mut bytes, random);
     }

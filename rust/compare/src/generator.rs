@@ -1,14 +1,18 @@
 //! Random tables that pass questions 2 to 12, and that the checker often accepts.
 
 use crate::fixed::{fixed, ruled};
-use crate::order::renumber;
+use crate::order::renumber_behind;
 use crate::random::Random;
 use crate::shape::{EXCHANGE, IF, LEAVE, NOTHING, OWN};
 use finchchaise::GATHERED_AREAS;
 use finchchaise_samples::Builder;
 
+pub const MOST_NODES: usize = 256;
+pub const MOST_PROCEDURES: usize = 16;
 /// Tables are given at most one of these numbers of nodes.
-const SIZES: [usize; 10] = [1, 3, 8, 16, 16, 32, 32, 64, 128, 256];
+pub const SIZES: [usize; 10] = [1, 3, 8, 16, 16, 32, 32, 64, 128, MOST_NODES];
+/// And one of these numbers of variables.
+pub const VARIABLES: [u32; 8] = [1, 2, 3, 4, 4, 8, 31, 32];
 /// With this many nodes a statement is always made of others, so that large tables become large.
 const LARGE: usize = 14;
 /// A while that counts a variable up, without its body.
@@ -28,15 +32,29 @@ pub fn switched_table(random: &mut Random, careful: bool) -> Builder {
 
 fn drafted(random: &mut Random, careful: bool, switched: bool) -> Builder {
     let size = random.pick(&SIZES);
-    let variables = random.pick(&[1, 2, 3, 4, 4, 8, 31, 32]);
+    let variables = random.pick(&VARIABLES);
     let flags = random.number();
     let single: Vec<u32> = (0..variables).filter(|a| flags >> a & 1 == 1).collect();
+    let begun = Builder::new(variables, &single);
+    completed(begun, size, careful, switched, random)
+}
+
+/// A table of at most so many nodes that begins with what is there: procedures whose bodies are
+/// single nodes without an effect.
+pub(crate) fn completed(
+    begun: Builder,
+    size: usize,
+    careful: bool,
+    switched: bool,
+    random: &mut Random,
+) -> Builder {
+    let first = begun.nodes.len();
     let strays = !careful && random.one_in(10);
     let areas = [(); 2].map(|()| random.below(GATHERED_AREAS) as u32);
     let mut draft = Draft {
         random,
-        table: Builder::new(variables, &single),
-        effects: Vec::new(),
+        table: begun,
+        effects: vec![false; first],
         areas,
         careful,
         strays,
@@ -46,7 +64,7 @@ fn drafted(random: &mut Random, careful: bool, switched: bool) -> Builder {
     draft.procedures(size);
     let Draft { random, table, .. } = draft;
     if random.one_in(2) {
-        renumber(&table, random)
+        renumber_behind(first, &table, random)
     } else {
         table
     }
@@ -92,10 +110,12 @@ impl Place {
 
 impl Draft<'_> {
     fn procedures(&mut self, size: usize) {
+        let left = size - self.table.nodes.len();
+        let most = left.min(MOST_PROCEDURES - self.table.procedures.len());
         let count = match self.random.below(4) {
             0 => 1,
-            1 => self.random.from(1, 16.min(size)),
-            _ => self.random.from(1, 4.min(size)),
+            1 => self.random.from(1, most),
+            _ => self.random.from(1, 4.min(most)),
         };
         for after in (0..count).rev() {
             let left = size - self.table.nodes.len();

@@ -7,7 +7,12 @@ use finchchaise_samples::Builder;
 
 /// The same table with its nodes in another order, parts still before the nodes that name them.
 pub fn renumber(table: &Builder, random: &mut Random) -> Builder {
-    let order = order(table, random);
+    renumber_behind(0, table, random)
+}
+
+/// The same, but for so many nodes at the beginning, which no node names.
+pub fn renumber_behind(first: usize, table: &Builder, random: &mut Random) -> Builder {
+    let order = order(first, table, random);
     let mut numbers = vec![0; order.len()];
     for (number, &node) in order.iter().enumerate() {
         numbers[node] = number as u32;
@@ -26,12 +31,13 @@ pub fn renumber(table: &Builder, random: &mut Random) -> Builder {
 }
 
 /// Takes any node next whose parts have all been taken.
-fn order(table: &Builder, random: &mut Random) -> Vec<usize> {
+fn order(first: usize, table: &Builder, random: &mut Random) -> Vec<usize> {
     let users = users(&table.nodes);
     let count = |node: &Node| parts(node[0]).count();
     let mut missing: Vec<usize> = table.nodes.iter().map(count).collect();
-    let mut ready: Vec<usize> = (0..missing.len()).filter(|&n| missing[n] == 0).collect();
-    let mut order = Vec::new();
+    let nodes = first..missing.len();
+    let mut ready: Vec<usize> = nodes.filter(|&node| missing[node] == 0).collect();
+    let mut order: Vec<usize> = (0..first).collect();
     while !ready.is_empty() {
         let node = ready.swap_remove(random.below(ready.len()));
         order.push(node);

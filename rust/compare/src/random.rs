@@ -59,6 +59,10 @@ impl Random {
         (0..count).map(|_| self.word()).collect()
     }
 
+    pub fn bytes(&mut self, count: usize) -> Vec<u8> {
+        (0..count).map(|_| self.number() as u8).collect()
+    }
+
     /// Words that are all alike, or of which each bit is set or not by chance.
     pub fn any_words(&mut self, count: usize) -> Vec<u32> {
         match self.below(8) {

@@ -2,15 +2,17 @@
 
 use crate::areas::{self, Area, AREAS};
 use crate::both::Team;
+use crate::joints::{self, Joint, JOINTS};
 use crate::leaves::{self, Shown, SHOWN};
 use crate::served::{self, Ending, ENDINGS};
 use crate::sources::{self, SOURCES};
 use crate::switches::{self, Switch, SWITCHES};
-use finchchaise::{Answer, Event, Refusal, Served, TeamStatus, GATHERED_AREAS};
+use finchchaise::{Answer, Event, LinkRefusal, LinkedTable, Refusal};
+use finchchaise::{Served, TeamStatus, GATHERED_AREAS};
 use std::io::Write;
 use std::{fmt, io};
 
-const NUMBERS: usize = 27;
+const NUMBERS: usize = 30;
 const EVENTS: [&str; 6] = ["moved", "finished", "arrived", "met", "waits", "ended"];
 const TEAMS: [&str; 3] = ["going", "done", "crossed"];
 
@@ -19,6 +21,8 @@ pub struct Tally {
     /// Calls that were not refused.
     pub taken: usize,
     pub refused: [usize; NUMBERS],
+    /// Links that were refused for the library; `refused` has those for the program.
+    pub of_library: [usize; NUMBERS],
     pub events: [usize; 6],
     pub teams: [usize; 3],
     /// Refusals of teams that all wait at one node.
@@ -35,6 +39,8 @@ pub struct Tally {
     pub made: usize,
     /// How serving ended, in the order of `ENDINGS`.
     pub endings: [usize; ENDINGS.len()],
+    /// What was shown of links, in the order of `JOINTS`.
+    pub joints: [usize; JOINTS.len()],
 }
 
 impl Tally {
@@ -121,8 +127,29 @@ impl Tally {
         self.endings[served::of_call(team, turns, answer) as usize] += 1;
     }
 
+    /// A link of two tables with an output of so many bytes.
+    pub fn linked(
+        &mut self,
+        library: &[u8],
+        program: &[u8],
+        length: usize,
+        answer: Result<(), LinkRefusal>,
+    ) {
+        match answer {
+            Err(LinkRefusal {
+                refusal,
+                table: LinkedTable::Library,
+            }) => self.of_library[refusal.number as usize] += 1,
+            _ => self.judged(answer.map_err(|refused| refused.refusal)),
+        }
+        for joint in joints::of_link(library, program, length, answer) {
+            self.joints[joint as usize] += 1;
+        }
+    }
+
     pub fn calls(&self) -> usize {
-        self.taken + self.refused.iter().sum::<usize>()
+        let refused = self.refused.iter().chain(&self.of_library);
+        self.taken + refused.sum::<usize>()
     }
 
     /// A comparison that covers little would pass without saying much.
@@ -130,6 +157,18 @@ impl Tally {
         for number in numbers {
             let times = self.refused[number];
             assert!(times >= least, "number {number} only {times} times: {self}");
+        }
+    }
+
+    /// The same for each of the tables that are linked.
+    pub fn assert_both_refused(&self, numbers: impl IntoIterator<Item = usize>, least: usize) {
+        for number in numbers {
+            self.assert_refused([number], least);
+            let times = self.of_library[number];
+            assert!(
+                times >= least,
+                "library {number} only {times} times: {self}"
+            );
         }
     }
 
@@ -180,6 +219,13 @@ impl Tally {
         }
     }
 
+    pub fn assert_joints(&self, wanted: &[(Joint, usize)]) {
+        for &(joint, least) in wanted {
+            let times = self.joints[joint as usize];
+            assert!(times >= least, "{joint:?} only {times} times: {self}");
+        }
+    }
+
     /// Not by println, which a test keeps to itself unless it fails.
     pub fn show(&self, what: &str) {
         let line = format!("compared {what}: {self}\n");
@@ -197,9 +243,11 @@ impl fmt::Display for Tally {
         }
         let words = EVENTS.iter().chain(&TEAMS).chain(&SHOWN).chain(&SOURCES);
         let words = words.chain(&AREAS).chain(&SWITCHES).chain(&ENDINGS);
+        let words = words.chain(&JOINTS);
         let times = self.events.iter().chain(&self.teams).chain(&self.leaves);
         let times = times.chain(&self.sources).chain(&self.areas);
         let times = times.chain(&self.switches).chain(&self.endings);
+        let times = times.chain(&self.joints);
         for (word, times) in words.zip(times) {
             if *times > 0 {
                 write!(out, ", {word} {times}")?;
@@ -208,12 +256,19 @@ impl fmt::Display for Tally {
         if self.all_there > 0 {
             write!(out, ", all at one node {}", self.all_there)?;
         }
-        let numbers = self.refused.iter().enumerate();
-        let refused = numbers.filter(|(_, times)| **times > 0);
-        let refused: Vec<String> = refused.map(|(n, times)| format!("{n}: {times}")).collect();
-        match refused.is_empty() {
+        if self.of_library != [0; NUMBERS] {
+            write!(out, "; libraries {}", by_number(&self.of_library))?;
+        }
+        match self.refused == [0; NUMBERS] {
             true => write!(out, "; none refused"),
-            false => write!(out, "; refused by number {}", refused.join(", ")),
+            false => write!(out, "; refused by number {}", by_number(&self.refused)),
         }
     }
+}
+
+fn by_number(refused: &[usize]) -> String {
+    let numbers = refused.iter().enumerate();
+    let refused = numbers.filter(|(_, times)| **times > 0);
+    let refused: Vec<String> = refused.map(|(n, times)| format!("{n}: {times}")).collect();
+    refused.join(", ")
 }

@@ -6,6 +6,12 @@ use std::iter::successors;
 /// Kind, A, B, C.
 pub type Node = [u32; 4];
 
+/// A word of a table that has it.
+pub fn word(table: &[u8], place: usize) -> u32 {
+    let (words, _) = table.as_chunks();
+    u32::from_be_bytes(words[place])
+}
+
 /// The nodes in a table's bytes, if its length is what its first word says.
 pub fn nodes_of(table: &[u8]) -> impl Iterator<Item = Node> + '_ {
     let procedures = table.get(1).map_or(0, |byte| byte >> 1 & 0x1F);

@@ -1,6 +1,8 @@
-//! The model's start, step and serve on the plain words of a roll.
+//! The model's calls with the library's types, and with the plain words of a roll.
 
-use finchchaise::{Answer, Event, Refusal, Served, TeamStatus, ROLL_WORDS};
+use finchchaise::{
+    Answer, Event, LinkRefusal, LinkedTable, Refusal, Served, TeamStatus, ROLL_WORDS,
+};
 use finchchaise_model as model;
 use finchchaise_model::{Arrival, Status};
 
@@ -50,6 +52,17 @@ pub fn serve(table: &[u8], state: &mut [u32], roll: &mut [u32], last: u32, turns
     }
 }
 
+pub fn link(library: &[u8], program: &[u8], out: &mut [u8]) -> Result<(), LinkRefusal> {
+    model::link(library, program, out).map_err(link_refusal)
+}
+
+pub fn joined_length(library: &[u8], program: &[u8]) -> Option<usize> {
+    match model::joined_length(library, program) {
+        0 => None,
+        length => Some(length),
+    }
+}
+
 /// A roll that is no whole number of records is refused with 21, as an empty one is.
 fn arrivals(roll: &[u32]) -> Vec<Arrival> {
     if roll.len().is_multiple_of(ROLL_WORDS) {
@@ -90,6 +103,16 @@ fn write(arrivals: &[Arrival], roll: &mut [u32]) {
 fn refusal(refusal: model::Refusal) -> Refusal {
     let model::Refusal { number, place } = refusal;
     Refusal { number, place }
+}
+
+fn link_refusal(refused: model::LinkRefusal) -> LinkRefusal {
+    LinkRefusal {
+        refusal: refusal(refused.refusal),
+        table: match refused.table {
+            model::LinkedTable::Library => LinkedTable::Library,
+            model::LinkedTable::Program => LinkedTable::Program,
+        },
+    }
 }
 
 fn event(event: model::Event) -> Event {

@@ -1,6 +1,6 @@
 //! What the calls answer.
 
-use crate::raw::{FcServe, FcStep};
+use crate::raw::{FcLink, FcServe, FcStep};
 use core::fmt;
 
 /// Question `number` of the rules paper failed at `place`, which is 0 where the paper names none.
@@ -58,6 +58,22 @@ pub struct Served {
     pub refusal: Option<Refusal>,
 }
 
+/// One of the two tables that are joined.
+#[derive(Clone, Copy, Debug, PartialEq, Eq, Hash)]
+pub enum LinkedTable {
+    Library,
+    /// The table that the library is joined to.
+    Program,
+}
+
+/// The refusal of a link, and the table of which the question was asked: the program for 27 to 29.
+/// Printed as the join program does: `refused 27 1 program`.
+#[derive(Clone, Copy, Debug, PartialEq, Eq, Hash)]
+pub struct LinkRefusal {
+    pub refusal: Refusal,
+    pub table: LinkedTable,
+}
+
 impl Refusal {
     /// An answer of fc_check or fc_start.
     pub(crate) fn judged(answer: u64) -> Result<(), Refusal> {
@@ -97,6 +113,41 @@ impl Served {
             made,
             last,
             refusal,
+        }
+    }
+}
+
+impl LinkRefusal {
+    pub(crate) fn judged(link: FcLink) -> Result<(), LinkRefusal> {
+        let FcLink {
+            number,
+            place,
+            table,
+        } = link;
+        match number {
+            0 => Ok(()),
+            _ => Err(LinkRefusal {
+                refusal: Refusal { number, place },
+                table: LinkedTable::numbered(table),
+            }),
+        }
+    }
+}
+
+impl LinkedTable {
+    fn numbered(number: u32) -> LinkedTable {
+        match number {
+            0 => LinkedTable::Library,
+            1 => LinkedTable::Program,
+            _ => unreachable!("the library has no table {number}"),
+        }
+    }
+
+    /// The printed word.
+    pub fn word(self) -> &'static str {
+        match self {
+            LinkedTable::Library => "library",
+            LinkedTable::Program => "program",
         }
     }
 }
@@ -162,6 +213,14 @@ impl fmt::Display for Refusal {
 }
 
 impl core::error::Error for Refusal {}
+
+impl fmt::Display for LinkRefusal {
+    fn fmt(&self, out: &mut fmt::Formatter) -> fmt::Result {
+        write!(out, "{} {}", self.refusal, self.table.word())
+    }
+}
+
+impl core::error::Error for LinkRefusal {}
 
 impl fmt::Display for Answer {
     fn fmt(&self, out: &mut fmt::Formatter) -> fmt::Result {

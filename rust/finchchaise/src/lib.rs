@@ -1,9 +1,11 @@
-//! Safe Rust over the proved library: a checker of site tables and a machine that runs them.
+//! Safe Rust over the proved library: a checker of site tables, a machine that runs them and a
+//! linker that joins one to another.
 //!
 //! The host lends all memory; the library allocates nothing and keeps nothing between calls. Any
 //! bytes and words may be passed: what does not fit is refused, and what is refused changes neither
-//! state nor roll. The words are described in docs/FORMAT.md. A process is the rules paper's bank,
-//! a team its site, a step its turn, a collective its meeting and a gathered area its roster.
+//! state nor roll nor an output. The words are described in docs/FORMAT.md. A process is the rules
+//! paper's bank, a team its site, a step its turn, a collective its meeting and a gathered area its
+//! roster.
 //!
 //! ```
 //! use finchchaise::{check, serve, start, step, Event, TeamStatus};
@@ -33,7 +35,7 @@ mod answer;
 mod arrival;
 mod raw;
 
-pub use answer::{Answer, Event, Refusal, Served, TeamStatus};
+pub use answer::{Answer, Event, LinkRefusal, LinkedTable, Refusal, Served, TeamStatus};
 pub use arrival::{Arrival, Status};
 
 /// The longest table.
@@ -117,4 +119,23 @@ pub fn latches(state: &[u32], process: u32) -> Option<[u32; LATCHES]> {
 /// Copies as many of a process's latches as `out` has room for, and answers how many.
 pub fn copy_latches(state: &[u32], process: u32, out: &mut [u32]) -> usize {
     raw::latches(state, process, out) as usize
+}
+
+/// Joins a library, which is a table too, to a program: the joined table has the library's
+/// procedures in place of the stubs (the paper's stand-ins) that the program begins with. It is
+/// written to `out`, every byte of it, whose length is that of `joined_length`.
+///
+/// Questions 2 to 12 and 26 are asked of the library, then of the program, and then 27 to 29. It does
+/// not ask whether the checker accepts the two tables; if it does, it accepts the joined one.
+pub fn link(library: &[u8], program: &[u8], out: &mut [u8]) -> Result<(), LinkRefusal> {
+    LinkRefusal::judged(raw::link(library, program, out))
+}
+
+/// The joined table's length in bytes, at most `MOST_TABLE_BYTES`, or `None` if `link` refuses the
+/// two tables whatever the output.
+pub fn joined_length(library: &[u8], program: &[u8]) -> Option<usize> {
+    match raw::joined_length(library, program) {
+        0 => None,
+        length => Some(length as usize),
+    }
 }

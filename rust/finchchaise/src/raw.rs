@@ -20,6 +20,14 @@ pub struct FcServe {
     pub place: u32,
 }
 
+/// The answer to a link; a number of 0 says that the tables were joined.
+#[repr(C)]
+pub struct FcLink {
+    pub number: u32,
+    pub place: u32,
+    pub table: u32,
+}
+
 unsafe extern "C" {
     fn fc_check(
         table: *const u8,
@@ -67,6 +75,22 @@ unsafe extern "C" {
         process: u32,
         out: *mut u32,
         out_length: usize,
+    ) -> u32;
+
+    fn fc_link(
+        library: *const u8,
+        library_length: usize,
+        program: *const u8,
+        program_length: usize,
+        out: *mut u8,
+        out_length: usize,
+    ) -> FcLink;
+
+    fn fc_joined_length(
+        library: *const u8,
+        library_length: usize,
+        program: *const u8,
+        program_length: usize,
     ) -> u32;
 }
 
@@ -145,6 +169,32 @@ pub fn latches(state: &[u32], process: u32, out: &mut [u32]) -> u32 {
             process,
             out.as_mut_ptr(),
             out.len(),
+        )
+    }
+}
+
+pub fn link(library: &[u8], program: &[u8], out: &mut [u8]) -> FcLink {
+    // SAFETY: as in `check`.
+    unsafe {
+        fc_link(
+            library.as_ptr(),
+            library.len(),
+            program.as_ptr(),
+            program.len(),
+            out.as_mut_ptr(),
+            out.len(),
+        )
+    }
+}
+
+pub fn joined_length(library: &[u8], program: &[u8]) -> u32 {
+    // SAFETY: as in `check`.
+    unsafe {
+        fc_joined_length(
+            library.as_ptr(),
+            library.len(),
+            program.as_ptr(),
+            program.len(),
         )
     }
 }

@@ -1,9 +1,9 @@
 //! What the wrapper adds to the library's numbers: types, printed words, views. Whether the library
 //! answers rightly is compared elsewhere, in rust/compare.
 
-use finchchaise::{check, copy_latches, latches, serve, start, step};
-use finchchaise::{Answer, Arrival, Event, Refusal, Served, Status, TeamStatus};
-use finchchaise::{DEPTH_AT, DOORS, LATCHES_AT, PROCESS_WORDS, ROLL_WORDS};
+use finchchaise::{check, copy_latches, joined_length, latches, link, serve, start, step};
+use finchchaise::{Answer, Arrival, Event, LinkRefusal, LinkedTable, Refusal, Served, Status};
+use finchchaise::{TeamStatus, DEPTH_AT, DOORS, LATCHES_AT, PROCESS_WORDS, ROLL_WORDS};
 use finchchaise::{SCRATCH_WORDS, STACK, STACK_AT};
 
 fn bytes(words: &[u32]) -> Vec<u8> {
@@ -176,4 +176,50 @@ fn latches_are_copied_as_far_as_there_is_room() {
     let first = LATCHES_AT as u32;
     assert_eq!(out, [first, first + 1, 7]);
     assert_eq!(copy_latches(&state, 0, &mut []), 0);
+}
+
+/// A procedure with this effect flag that does nothing, and then one that calls it.
+fn caller(effect: u32) -> Vec<u8> {
+    bytes(&[
+        0x10440200,
+        0,
+        effect << 23,
+        0x01800000,
+        0x80000000,
+        0xA8000000,
+    ])
+}
+
+#[test]
+fn tables_are_joined() {
+    let (library, program) = (t2(), caller(1));
+    let mut joined = vec![7; 36];
+    assert_eq!(joined_length(&library, &program), Some(joined.len()));
+    assert_eq!(link(&library, &program, &mut joined), Ok(()));
+    let expected = [
+        0x10440500, 0, 0x03800000, 0x04800000, 0x18000000, 0xB8000000, 0x80000000, 0x98000202,
+        0xA8000000,
+    ];
+    assert_eq!(joined, bytes(&expected));
+    let printed = Team::started(joined).printed(&[0, 0, 0]);
+    assert_eq!(printed[2], "arrived 1 going");
+}
+
+#[test]
+fn refused_links_say_which_table() {
+    let refused = |number, place, table| {
+        let refusal = Refusal { number, place };
+        Err(LinkRefusal { refusal, table })
+    };
+    let mut out = [7; 40];
+    let unlike = link(&t2(), &caller(0), &mut out);
+    assert_eq!(unlike, refused(27, 0, LinkedTable::Program));
+    let cut = link(&t2()[4..], &caller(1), &mut out);
+    assert_eq!(cut, refused(3, 0, LinkedTable::Library));
+    let too_long = link(&t2(), &caller(1), &mut out);
+    assert_eq!(too_long, refused(29, 0, LinkedTable::Program));
+    assert_eq!(out, [7; 40]);
+    assert_eq!(joined_length(&t2(), &caller(0)), None);
+    let printed = [unlike, cut].map(|answer| answer.expect_err("a refusal").to_string());
+    assert_eq!(printed, ["refused 27 0 program", "refused 3 0 library"]);
 }

@@ -15,6 +15,7 @@ mod arrival;
 mod evaluation;
 mod judgement;
 mod leave;
+mod linker;
 mod process;
 mod programs;
 mod refusal;
@@ -25,8 +26,9 @@ mod team;
 
 pub use arrival::{Arrival, Status};
 pub use judgement::check;
+pub use linker::{joined_length, link, LinkRefusal, LinkedTable};
 pub use process::{latches, PROCESS_WORDS};
-pub use programs::{check_table, run_team, schedule_team};
+pub use programs::{check_table, link_tables, run_team, schedule_team};
 pub use refusal::Refusal;
 pub use scheduler::{serve, Served};
 pub use team::{start, step, Answer, Event, TeamStatus};

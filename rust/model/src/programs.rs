@@ -1,7 +1,8 @@
-//! The text of the check program, the run program and the serve program.
+//! What the check program, the run program, the serve program and the join program print.
 
 use crate::arrival::Arrival;
 use crate::judgement::{check, SCRATCH_WORDS};
+use crate::linker::joined_bytes;
 use crate::process::PROCESS_WORDS;
 use crate::refusal::{ask, Refusal};
 use crate::scheduler::serve;
@@ -26,6 +27,18 @@ pub fn run_team(input: &[u8]) -> String {
 /// What the serve program prints for its input.
 pub fn schedule_team(input: &[u8]) -> String {
     schedule(input).unwrap_or_else(|refusal| format!("{refusal}\n"))
+}
+
+/// What the join program prints for its input: the joined table, or a line as the others have it.
+pub fn link_tables(input: &[u8]) -> Vec<u8> {
+    let line = match split_table(input) {
+        Some((library, program)) => match joined_bytes(library, program) {
+            Ok(joined) => return joined,
+            Err(refusal) => format!("{refusal}\n"),
+        },
+        None => format!("{NO_INPUT}\n"),
+    };
+    line.into_bytes()
 }
 
 const NO_INPUT: Refusal = Refusal {
@@ -98,13 +111,18 @@ impl Started {
 
 /// Question 25: the table's bytes, the number of processes and what follows.
 fn split_input(input: &[u8]) -> Option<(&[u8], u32, &[u8])> {
+    let (table, rest) = split_table(input)?;
+    let (processes, rest) = split_word(rest)?;
+    Some((table, processes, rest))
+}
+
+/// The part of question 25 that all programs share: the table's bytes and what follows.
+fn split_table(input: &[u8]) -> Option<(&[u8], &[u8])> {
     if input.len() > MOST_INPUT {
         return None;
     }
     let (length, rest) = split_word(input)?;
-    let (table, rest) = rest.split_at_checked(length as usize)?;
-    let (processes, rest) = split_word(rest)?;
-    Some((table, processes, rest))
+    rest.split_at_checked(length as usize)
 }
 
 fn split_word(bytes: &[u8]) -> Option<(u32, &[u8])> {

@@ -3,19 +3,23 @@
 use crate::process::AREAS;
 use crate::refusal::{ask, ask_each, Refusal};
 
+pub const MOST_NODES: usize = 256;
+
 /// A table that has passed questions 2 to 12 and 26.
 pub struct Table {
     pub variables: usize,
     pub procedures: Vec<Procedure>,
     pub nodes: Vec<Node>,
-    single_flags: u32,
+    pub single_flags: u32,
 }
 
+#[derive(Clone, Copy, PartialEq, Eq)]
 pub struct Procedure {
     pub body: usize,
     pub effect: bool,
 }
 
+#[derive(Clone, Copy)]
 pub struct Node {
     pub kind: Kind,
     /// A, B and C.
@@ -125,10 +129,15 @@ impl Node {
         self.kind.fields().into_iter().zip(self.fields)
     }
 
-    pub fn parts(&self) -> impl Iterator<Item = usize> {
-        self.labelled_fields()
-            .filter(|(field, _)| matches!(field, Field::Expression | Field::Statement))
-            .map(|(_, part)| part)
+    pub fn parts(&self) -> impl Iterator<Item = usize> + '_ {
+        self.part_places().map(|place| self.fields[place])
+    }
+
+    /// Which of A, B and C are parts.
+    pub fn part_places(&self) -> impl Iterator<Item = usize> {
+        let fields = self.kind.fields();
+        (0..fields.len())
+            .filter(move |&place| matches!(fields[place], Field::Expression | Field::Statement))
     }
 }
 
@@ -151,7 +160,7 @@ impl Header {
         let valid = field(28, 4) == 1
             && (1..=32).contains(&header.variables)
             && (1..=16).contains(&header.procedures)
-            && (1..=256).contains(&header.nodes)
+            && (1..=MOST_NODES).contains(&header.nodes)
             && field(0, 8) == 0;
         valid.then_some(header)
     }

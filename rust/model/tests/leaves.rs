@@ -181,7 +181,7 @@ fn a_leave_needs_a_while_in_its_procedure() {
     let alone = table_of(&[LEAVE]);
     let behind = table_of(&[COUNT, NOTHING, repeat(0, 1), LEAVE, sequence(2, 3)]);
     let under_if = table_of(&[COUNT, NOTHING, LEAVE, choose(0, 1, 2)]);
-    let called = table_with(&[0, 3], &[LEAVE, COUNT, [21, 0, 0, 0], repeat(1, 2)]);
+    let called = table_with(&[0, 3], &[LEAVE, COUNT, call(0), repeat(1, 2)]);
     for (table, place) in [(alone, 0), (behind, 3), (under_if, 2), (called, 0)] {
         let text = format!("refused 26 {place}\n");
         assert_eq!(check_table(&table), text);
@@ -208,7 +208,7 @@ fn the_lowest_leave_without_a_while_is_named() {
 #[test]
 fn question_26_is_asked_after_12_and_before_13() {
     // A call of its own procedure, beside a leave without a while.
-    let nodes = [LEAVE, [21, 0, 0, 0], sequence(0, 1)];
+    let nodes = [LEAVE, call(0), sequence(0, 1)];
     assert_eq!(check_table(&table_of(&nodes)), "refused 12 1\n");
     // A single variable takes the own number before such a leave.
     let mut table = table_of(&[OWN, [17, 0, 0, 0], LEAVE, sequence(1, 2)]);

@@ -314,8 +314,7 @@ fn dead_effects_do_not_count() {
 fn dead_calls_do_not_count() {
     // A barrier, and a procedure without flag that calls it by a switch.
     let judged = |value| {
-        let call = [21, 0, 0, 0];
-        let nodes = [BARRIER, constant(value), call, NOTHING, choose(1, 2, 3)];
+        let nodes = [BARRIER, constant(value), call(0), NOTHING, choose(1, 2, 3)];
         let mut table = table_with(&[0, 4], &nodes);
         table[13] = 0;
         check_table(&table)
@@ -354,7 +353,7 @@ fn earlier_questions_are_put_to_dead_branches() {
     assert_eq!(judged(&[[23, 1, 0, 0]]), "refused 8 0\n");
     assert_eq!(judged(&[COUNT, [17, 1, 0, 0]]), "refused 9 1\n");
     assert_eq!(judged(&[COUNT, BARRIER]), "refused 11 0\n");
-    assert_eq!(judged(&[[21, 0, 0, 0]]), "refused 12 0\n");
+    assert_eq!(judged(&[call(0)]), "refused 12 0\n");
     assert_eq!(judged(&[LEAVE]), "refused 26 0\n");
 }
 

@@ -1,10 +1,10 @@
-//! Every line of tests/vectors/u07.txt through the model.
+//! Every line of tests/vectors/u08.txt through the model.
 
-use finchchaise_model::{check_table, run_team, schedule_team};
+use finchchaise_model::{check_table, link_tables, run_team, schedule_team};
 use std::{fs, path::Path};
 
-const VECTORS: &str = "../../tests/vectors/u07.txt";
-const FEWEST_CASES: usize = 744;
+const VECTORS: &str = "../../tests/vectors/u08.txt";
+const FEWEST_CASES: usize = 834;
 const MOST_SHOWN: usize = 5;
 
 /// A line: the program's word, its input and its output in hexadecimal.
@@ -29,13 +29,13 @@ impl Case<'_> {
 
     fn found(&self) -> Vec<u8> {
         let input = bytes_of(self.input);
-        let text = match self.program {
-            "check" => check_table(&input),
-            "run" => run_team(&input),
-            "serve" => schedule_team(&input),
+        match self.program {
+            "check" => check_table(&input).into_bytes(),
+            "run" => run_team(&input).into_bytes(),
+            "serve" => schedule_team(&input).into_bytes(),
+            "join" => link_tables(&input),
             other => panic!("no program {other}"),
-        };
-        text.into_bytes()
+        }
     }
 }
 

@@ -3,7 +3,7 @@
 use super::refusal::refused;
 use finchchaise::{Refusal, GATHERED_AREAS};
 
-const MOST_NODES: usize = 256;
+pub const MOST_NODES: usize = 256;
 
 /// The fields of a node's word.
 pub const A: u32 = 0x1FF << 18;
@@ -16,7 +16,7 @@ const _: () = assert!(GATHERED_AREAS.is_power_of_two());
 /// A table that has passed questions 2 to 6. It stays in its bytes.
 pub struct Table<'bytes> {
     pub variables: usize,
-    flags: u32,
+    pub flags: u32,
     pub procedures: &'bytes [[u8; 4]],
     pub nodes: &'bytes [[u8; 4]],
 }

@@ -38,6 +38,10 @@ pub const NOTHING: Node = [16, 0, 0, 0];
 pub const BARRIER: Node = [23, 0, 0, 0];
 pub const LEAVE: Node = [26, 0, 0, 0];
 
+pub const fn call(procedure: u32) -> Node {
+    [21, procedure, 0, 0]
+}
+
 pub const fn sequence(first: u32, second: u32) -> Node {
     [18, first, second, 0]
 }
@@ -57,9 +61,21 @@ pub fn table_of(nodes: &[Node]) -> Vec<u8> {
 
 /// One variable, procedures with these bodies, all with the effect flag.
 pub fn table_with(bodies: &[u32], nodes: &[Node]) -> Vec<u8> {
-    let (procedures, count) = (bodies.len() as u32, nodes.len() as u32);
-    let mut words = vec![0x10400000 | procedures << 17 | count << 8, 0];
-    words.extend(bodies.iter().map(|body| body << 24 | 1 << 23));
+    let procedures: Vec<_> = bodies.iter().map(|&body| (body, true)).collect();
+    table_flagged(1, 0, &procedures, nodes)
+}
+
+/// So many variables, their word of flags, procedures' bodies and effect flags.
+pub fn table_flagged(
+    variables: u32,
+    flags: u32,
+    procedures: &[(u32, bool)],
+    nodes: &[Node],
+) -> Vec<u8> {
+    let header = 1 << 28 | variables << 22 | (procedures.len() << 17 | nodes.len() << 8) as u32;
+    let mut words = vec![header, flags];
+    let procedure = |&(body, effect): &(u32, bool)| body << 24 | (effect as u32) << 23;
+    words.extend(procedures.iter().map(procedure));
     words.extend(
         nodes
             .iter()
