@@ -5,12 +5,15 @@
 #![forbid(unsafe_code)]
 
 mod builder;
+pub mod library;
 mod rosters;
 mod switches;
 
 pub use builder::{bytes, Builder};
 pub use rosters::rosters;
 pub use switches::{switches, Site};
+
+use library::Program::{Search, Stocktake};
 
 /// A file of samples/.
 pub struct Sample {
@@ -30,14 +33,21 @@ pub fn samples() -> Vec<Sample> {
         file("rosters.table", rosters()),
         file("switches-north.table", switches(Site::North)),
         file("switches-south.table", switches(Site::South)),
+        file("library.table", library::library()),
+        file("library-stocktake.table", library::program(Stocktake)),
+        file("library-search.table", library::program(Search)),
+        file("library-stocktake.join", library::join(Stocktake)),
+        file("library-search.join", library::join(Search)),
         file("t2-two.run", t2_two()),
         file("stocktake.run", stocktake_run()),
         file("search.run", search_run()),
         file("tariff.run", tariff_run()),
         file("switches-north.run", switches::run(Site::North)),
         file("switches-south.run", switches::run(Site::South)),
+        file("library-stocktake.run", library::stocktake_run()),
         file("stocktake.serve", stocktake_serve()),
         file("rosters.serve", rosters::serve()),
+        file("library-search.serve", library::search_serve()),
     ]
 }
 
@@ -111,9 +121,14 @@ fn each_door(table: &mut Builder, look: impl Fn(&mut Builder) -> u32) -> u32 {
 
 /// Slot by slot; it assigns single variables, so it has a global effect.
 fn add_up(table: &mut Builder) -> u32 {
-    let add = |table: &mut Builder| add_slot(table, TOTAL, SLOT, 0);
-    let body = table.count_up(SLOT, Builder::count, add);
+    let body = add_slots(table);
     table.procedure(body, true)
+}
+
+/// The slots of area 0 from SLOT on, one for each process, added to TOTAL.
+fn add_slots(table: &mut Builder) -> u32 {
+    let add = |table: &mut Builder| add_slot(table, TOTAL, SLOT, 0);
+    table.count_up(SLOT, Builder::count, add)
 }
 
 /// The total grows by the slot of an area.

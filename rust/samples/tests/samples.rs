@@ -1,8 +1,10 @@
 //! The files of samples/ are what this package makes, and what their .md files say of them is true.
 
-use finchchaise_model::{check_table, run_team, schedule_team};
+use finchchaise_model::{check_table, link_tables, run_team, schedule_team};
 use finchchaise_model::{latches, start, step, Arrival, Event, PROCESS_WORDS};
-use finchchaise_samples::{rosters, samples, search, stocktake, switches, tariff, Sample, Site};
+use finchchaise_samples::library::{join, joined, library, program, Program};
+use finchchaise_samples::{bytes, rosters, samples, search, stocktake, switches, tariff};
+use finchchaise_samples::{Sample, Site};
 use std::collections::BTreeSet;
 use std::fs;
 use std::path::PathBuf;
@@ -11,26 +13,32 @@ fn folder() -> PathBuf {
     PathBuf::from(env!("CARGO_MANIFEST_DIR")).join("../../samples")
 }
 
-fn text(name: &str) -> String {
-    fs::read_to_string(folder().join(name)).unwrap_or_else(|error| panic!("{name}: {error}"))
+fn read(name: &str) -> Vec<u8> {
+    fs::read(folder().join(name)).unwrap_or_else(|error| panic!("{name}: {error}"))
 }
 
-fn answer(sample: &Sample) -> String {
+fn text(name: &str) -> String {
+    String::from_utf8(read(name)).expect(name)
+}
+
+/// What is printed for a sample: text, but of two tables that are joined the bytes of one.
+fn answer(sample: &Sample) -> Vec<u8> {
     let program = match sample.name.rsplit_once('.') {
+        Some((_, "join")) => return link_tables(&sample.bytes),
         Some((_, "table")) => check_table,
         Some((_, "run")) => run_team,
         Some((_, "serve")) => schedule_team,
         _ => panic!("no program for {}", sample.name),
     };
-    program(&sample.bytes)
+    program(&sample.bytes).into_bytes()
 }
 
 #[test]
 fn files_are_as_made() {
     for sample in samples() {
-        let found = fs::read(folder().join(sample.name)).expect(sample.name);
-        assert_eq!(found, sample.bytes, "{}", sample.name);
-        assert_eq!(text(&format!("{}.out", sample.name)), answer(&sample));
+        assert_eq!(read(sample.name), sample.bytes, "{}", sample.name);
+        let printed = format!("{}.out", sample.name);
+        assert_eq!(read(&printed), answer(&sample), "{printed}");
     }
 }
 
@@ -38,6 +46,11 @@ fn files_are_as_made() {
 fn tables_are_accepted_but_t1_and_runs_end_done() {
     for sample in samples() {
         let answer = answer(&sample);
+        if sample.name.ends_with(".join") {
+            assert_eq!(check_table(&answer), "accepted\n", "{}", sample.name);
+            continue;
+        }
+        let answer = String::from_utf8(answer).expect(sample.name);
         match sample.name {
             "t1.table" => assert_eq!(answer, "refused 15 3\n"),
             name if name.ends_with(".table") => assert_eq!(answer, "accepted\n", "{name}"),
@@ -49,17 +62,31 @@ fn tables_are_accepted_but_t1_and_runs_end_done() {
     }
 }
 
-/// The words written `1234ABCD` in a text.
-fn words(text: &str) -> Vec<u32> {
-    text.split('`')
-        .filter(|part| part.len() == 8)
-        .filter_map(|part| u32::from_str_radix(part, 16).ok())
+/// The words written `1234ABCD` in a column of a page's tables, of which column 1 is the first.
+fn words(page: &str, column: usize) -> Vec<u32> {
+    page.lines()
+        .filter(|line| line.starts_with('|'))
+        .filter_map(|row| row.split('|').nth(column))
+        .filter_map(|cell| cell.trim().strip_prefix('`')?.strip_suffix('`'))
+        .filter(|word| word.len() == 8)
+        .filter_map(|word| u32::from_str_radix(word, 16).ok())
         .collect()
 }
+
+/// The columns with a table's words, and with what they are in the joined table.
+const WORD: usize = 2;
+const JOINED: usize = 4;
 
 /// The name of the page that explains a file: all before the first - or dot.
 fn page(sample: &Sample) -> &str {
     sample.name.split(['-', '.']).next().expect("a name")
+}
+
+/// The section of a page whose heading names the file, or all of a page that has none.
+fn section<'a>(page: &'a str, file: &str) -> &'a str {
+    let name = format!("`{file}`");
+    let is_headed = |part: &&str| part.lines().next().is_some_and(|line| line.contains(&name));
+    page.split("\n## ").find(is_headed).unwrap_or(page)
 }
 
 /// A page without the rows for the other site.
@@ -80,14 +107,38 @@ fn explanations_list_every_word() {
         let (table, rest) = sample.bytes.as_chunks();
         let table: Vec<u32> = table.iter().copied().map(u32::from_be_bytes).collect();
         let text = text(&format!("{}.md", page(&sample)));
-        assert_eq!(words(&rows_of(site, &text)), table, "{name}");
+        let rows = rows_of(site, section(&text, sample.name));
+        assert_eq!(words(&rows, WORD), table, "{name}");
         assert!(rest.is_empty());
+    }
+}
+
+/// The programs that use the library, and their files.
+const PROGRAMS: [(Program, &str); 2] = [
+    (Program::Stocktake, "library-stocktake.table"),
+    (Program::Search, "library-search.table"),
+];
+
+#[test]
+fn explanations_list_every_joined_word() {
+    let page = text("library.md");
+    // Behind header, flags and two procedures.
+    let library = &words(section(&page, "library.table"), WORD)[4..];
+    for (program, file) in PROGRAMS {
+        let own = words(section(&page, file), JOINED);
+        let procedures = (own[0] >> 17 & 31) as usize;
+        let (before, nodes) = own.split_at(2 + procedures);
+        let listed = [before, library, nodes].concat();
+        assert_eq!(bytes(&listed), joined(program), "{file}");
     }
 }
 
 /// What is printed, in order, with a line `...` where some is left out.
 fn assert_printed(session: &str) {
     let (command, shown) = session.split_once('\n').expect("a command");
+    if command.starts_with("$ ./site join") {
+        return assert_joined(command, shown);
+    }
     let file = command.rsplit('/').next().expect("a file");
     let printed = text(&format!("{file}.out"));
     let mut left = &printed[..];
@@ -98,6 +149,21 @@ fn assert_printed(session: &str) {
         left = &left[begin + part.len()..];
     }
     assert!(left.is_empty(), "{command} prints more");
+}
+
+/// Joining prints nothing here. What it reads is in a file of the program's name, and what it writes
+/// is checked next.
+fn assert_joined(command: &str, shown: &str) {
+    let names: Vec<&str> = command.split(' ').skip(3).collect();
+    let [library, program, out] = names[..] else {
+        panic!("{command}");
+    };
+    let [library, program] = [library, program].map(|name| name.rsplit('/').next().unwrap());
+    let input = program.replace(".table", ".join");
+    let length = bytes(&[read(library).len() as u32]);
+    let tables = [length, read(library), read(program)].concat();
+    assert_eq!(read(&input), tables, "{command}");
+    assert_eq!(shown, format!("$ ./site check {out}\naccepted\n"));
 }
 
 #[test]
@@ -276,5 +342,59 @@ fn what_is_off_is_judged_when_it_is_on() {
     for site in [Site::North, Site::South] {
         let slip = with_node(switches(site), 6, 0xC814_0800);
         assert_eq!(check_table(&slip), "refused 9 6\n");
+    }
+}
+
+#[test]
+fn joining_is_building_behind_the_library() {
+    for (program, file) in PROGRAMS {
+        assert_eq!(link_tables(&join(program)), joined(program), "{file}");
+    }
+}
+
+#[test]
+fn library_adds_up_what_is_said() {
+    let table = joined(Program::Stocktake);
+    let given = start_words("library-stocktake.run", &table, 2 * 16);
+    assert_eq!(shown(&state_after(&table, &given, 2, 3)), [[7, 0, 0]; 2]);
+    assert_eq!(shown(&state_after(&table, &given, 2, 68)), [[7, 0, 0]; 2]);
+    let (state, met) = after(&table, &given, 2, 85);
+    assert_eq!(met, [4]);
+    assert_eq!(shown(&state), [[8, 0, 0]; 2]);
+    let table = joined(Program::Search);
+    let given = start_words("library-search.serve", &table, 3 * 16);
+    let (state, met) = after(&table, &given, 3, 166);
+    assert_eq!(met, [4]);
+    assert_eq!(shown(&state), [[2, 2, 0], [2, 0, 0], [2, 12, 0]]);
+}
+
+#[test]
+fn stubs_do_nothing() {
+    let given = start_words("library-stocktake.run", &joined(Program::Stocktake), 2 * 16);
+    let (state, met) = after(&program(Program::Stocktake), &given, 2, 85);
+    assert!(met.is_empty());
+    assert_eq!(shown(&state), [[0, 0, 0]; 2]);
+}
+
+/// What joining the library to a program prints that the checker accepts.
+fn refused(program: &[u8]) -> String {
+    assert_eq!(check_table(program), "accepted\n");
+    let length = bytes(&[library().len() as u32]);
+    let printed = link_tables(&[&length, &library(), program].concat());
+    String::from_utf8(printed).expect("a refusal")
+}
+
+#[test]
+fn slips_are_refused_by_joining() {
+    let mut table = program(Program::Stocktake);
+    // The flag of procedure 1.
+    table[4 * (2 + 1) + 1] = 0;
+    assert_eq!(refused(&table), "refused 27 1 program\n");
+    let mut table = program(Program::Search);
+    // The flags of variables 0 to 7.
+    table[4] = 0;
+    assert_eq!(refused(&table), "refused 28 2 program\n");
+    for (program, _) in PROGRAMS {
+        assert_eq!(refused(&joined(program)), "refused 27 0 program\n");
     }
 }
