@@ -74,7 +74,7 @@ keeps-length library program output = length-by library program output (linkAnsw
 pub length-told : LengthTold
 unfolding joinedLength linkAnswer
 length-told library program output = (
-  λ e. let (asked, room) = passed library program output e in rw asked room,
+  λ e. let (asked, room) = passed library program output e in rw asked (omega arith, room),
   λ h same.
       let asked = told (joinable library program) _ h in
       let room : length output ≡ joinedBytes (decode library) (decode program) = rw asked at same in

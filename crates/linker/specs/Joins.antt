@@ -14,11 +14,12 @@ use Rattle.rules.specs.WellFormed.{wellFormed}
 abbrev pub KeepsLength : Type 0
 KeepsLength = (library program output : List ℕ) → length (linkOutput library program output) ≡ length output
 
--- an output of the length asked for beforehand is the one that is taken
+-- a call is taken exactly if the output has the length told beforehand, and that is not 0
 abbrev pub LengthTold : Type 0
 LengthTold =
     (library program output : List ℕ)
-    → (linkAnswer library program output ≡ Joined → length output ≡ joinedLength library program)
+    → (linkAnswer library program output ≡ Joined
+    → (1 ≤ joinedLength library program) × (length output ≡ joinedLength library program))
     × (1 ≤ joinedLength library program → length output ≡ joinedLength library program
     → linkAnswer library program output ≡ Joined)
 
