@@ -1,2 +1,2 @@
-// Closed cases of the rules beyond those that the paper marks, as theorems in specs/. No code, and no must-fail edit: nothing here is
-// checked again when an edit is tried.
+// Closed cases of the rules beyond those that the paper marks, and of joining, as theorems in specs/. No code, and no must-fail
+// edit: nothing here is checked again when an edit is tried.
