@@ -1,5 +1,7 @@
 // Question 12: does each call name a procedure below its own? A walk from each body down: statements that may hold a call wait,
 // which are marked, and the highest of them is visited next.
+#![tactic(auto)]
+
 ghost use Rattle.std.specs.Prelude.{cond, [], ◌∷◌, ◌≡◌, ◌+◌, ◌/◌, ◌<◌, ◌≤◌, ◌^◌, min, length, replicate};
 ghost use Rattle.rules.specs.Choice.{first_failing};
 ghost use Rattle.rules.specs.Table.{decode, nodes, statement_at};

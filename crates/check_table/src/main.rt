@@ -1,4 +1,6 @@
 // Reads a table on standard input and prints the checker's answer.
+#![tactic(auto)]
+
 use checker::check;
 use libc::STDIN_FILENO;
 use rules::Verdict;

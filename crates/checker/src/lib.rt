@@ -1,4 +1,6 @@
 // The checker: question 1, then 2 to 12, 26 and 13 to 17 over lent scratch.
+#![tactic(auto)]
+
 ghost use Rattle.std.specs.Prelude.{◌≡◌, length};
 ghost use Rattle.rules.specs.Acceptance.{scratch_words, judged, checked, checked_scratch};
 ghost use Rattle.rules.specs.Answers.{◌then◌};

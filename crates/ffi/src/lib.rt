@@ -1,5 +1,7 @@
 // The library for firmware and hosts in other languages, on numbers and word slices (include/finchchaise.h). Each export
 // asks for nothing of its caller: what it answers, and what every lent word then holds, are equations with the rules.
+#![tactic(auto)]
+
 ghost use Rattle.std.specs.Prelude.{◌≡◌, ◌++◌, ◌≤◌, length, take, drop};
 ghost use Rattle.linker.specs.Linking.{link_answer, link_output, joined_length};
 ghost use Rattle.rules.specs.Acceptance.{checked, checked_scratch};
@@ -19,7 +21,7 @@ use scheduler::{Service, serve};
 
 // A step's answer in numbers. `number` 0: the step was taken.
 #[repr(C)]
-#[derive(Drop)]
+#[derive(Clone, Copy)]
 pub struct FcStep {
     pub number: u32,
     pub place: u32,
@@ -30,7 +32,7 @@ pub struct FcStep {
 
 // The answer to a call that serves. `number` 0: no refusal was added.
 #[repr(C)]
-#[derive(Drop)]
+#[derive(Clone, Copy)]
 pub struct FcServe {
     pub made: u32,
     pub last: u32,
@@ -40,7 +42,7 @@ pub struct FcServe {
 
 // The answer to a joining. `number` 0: joined. `table` 0: of the library, 1: of the program.
 #[repr(C)]
-#[derive(Drop)]
+#[derive(Clone, Copy)]
 pub struct FcLink {
     pub number: u32,
     pub place: u32,

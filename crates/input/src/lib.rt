@@ -1,6 +1,8 @@
 // The input of the programs that read more than a table: a word L, L table bytes, words that each program names, and what stands
 // behind them. Which part of the bytes is which is said in rules/specs/Input.antt. As there, parts are cut out of any bytes, and
 // past the end of them all is 0: question 25 is asked once, and no part asks again.
+#![tactic(auto)]
+
 ghost use Rattle.std.specs.Prelude.{◌∷◌, [], ◌++◌, ◌≡◌, ◌*◌, ◌/◌, ◌≤◌, min, length, get_or, take, drop};
 ghost use Rattle.rules.specs.declared.Verdict.TheVariants.{Accepted};
 ghost use Rattle.rules.specs.Input.{table_bytes, end_behind, behind, word_behind, words_of, words_taken, words_exactly};

@@ -1,6 +1,8 @@
 // The leaves of a table that passes 2 to 12, in a pass of their own over the nodes, which a table without leaves does not need: question
 // 26, and question 16 of a while that is left locally. A bit a node says whether it holds a leave; another, in the plane that 11 and 12
 // need no more, whether it is left locally.
+#![tactic(auto)]
+
 ghost use Rattle.std.specs.Prelude.{cond, ◌&&◌, ◌||◌, ◌≡◌, ◌%◌, ◌<◌, ◌≤◌, length};
 ghost use Rattle.leaves.specs.Leaves.{left_plane, either_bit, Joined, NodePassed, NodesPassed, Cleared, LeavesPassed};
 ghost use Rattle.rules.specs.Table.{decode, nodes, statement_at};

@@ -1,5 +1,7 @@
 // Reads a word L, L bytes of a library, and a table, the program, on standard input. Writes the joined table, or the refusal and which
 // of the two it is about.
+#![tactic(auto)]
+
 ghost use Rattle.std.specs.Prelude.{◌≡◌, length};
 ghost use Rattle.rules.specs.WellFormed.{most_table_bytes};
 

@@ -1,4 +1,6 @@
 // Joining a library to a table (request U8). The table that it is joined to is the program.
+#![tactic(auto)]
+
 ghost use Rattle.std.specs.Prelude.{◌≡◌, ◌≤◌, length};
 ghost use Rattle.linker.specs.Linking.{joinable, link_answer, link_output, joined_length};
 ghost use Rattle.linker.specs.declared.Link.TheVariants.{Joined};
@@ -16,7 +18,7 @@ mod writing; // writing.rt: the joined table's words
 
 // The answer: the joined table is written, or the first question that fails, and whether it is put to the library or to the
 // program.
-#[derive(Drop)]
+#[derive(Clone, Copy)]
 pub enum Link {
     Joined,
     OfLibrary(Refusal),
@@ -24,7 +26,7 @@ pub enum Link {
 }
 
 // The counts of both tables.
-#[derive(Drop)]
+#[derive(Clone, Copy)]
 struct Counts {
     library: Header,
     program: Header,

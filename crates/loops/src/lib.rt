@@ -1,5 +1,7 @@
 // The nearest while (a loop) around a statement: on the way up to its procedure's body, the first while. And whether there is a leave
 // at all, which is what asks for it.
+#![tactic(auto)]
+
 ghost use Rattle.std.specs.Prelude.{cond, ◌≡◌, ◌<◌};
 ghost use Rattle.rules.specs.Table.{decode, nodes};
 ghost use Rattle.rules.specs.WellFormed.{nearest_loop, well_built};

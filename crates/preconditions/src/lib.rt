@@ -1,4 +1,6 @@
 // Questions 18 to 24, which a start and a step put to state and roll once the table is well formed.
+#![tactic(auto)]
+
 ghost use Rattle.std.specs.Prelude.{true, ◌≡◌, ◌<◌};
 ghost use Rattle.rules.specs.declared.Verdict.TheVariants.{Accepted};
 ghost use Rattle.rules.specs.Answers.{◌then◌};

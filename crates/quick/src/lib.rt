@@ -1,4 +1,6 @@
 // A node at which nothing fails: one match on the kind gives the roles of its fields, where its fact comes from, and its rule.
+#![tactic(auto)]
+
 ghost use Rattle.std.specs.Prelude.{◌≡◌, ◌<◌, length};
 ghost use Rattle.rules.specs.Table.{decode, unpacked, node_at};
 ghost use Rattle.table.specs.Sized.{Sized};

@@ -1,5 +1,7 @@
 // The team's start, step and serving with the arrivals (the paper's roll) lent as a slice of records. The core works on plain words:
 // the records are loaded into an array of words, which is lent to the core, and saved from it.
+#![tactic(auto)]
+
 ghost use Rattle.std.specs.Prelude.{◌≡◌, ◌+◌, ◌*◌, ◌<◌, length, take, drop};
 ghost use Rattle.rules.specs.Arrivals.{with_arrival};
 ghost use Rattle.rules.specs.Scheduling.{served};
@@ -65,7 +67,7 @@ fn save(roll: &mut [Arrival], words: [u32; LENT_WORDS])
 }
 
 // A start's answer, and the words lent to it as it leaves them.
-#[derive(Drop)]
+#[derive(Clone, Copy)]
 struct StartAnswer {
     answer: Verdict,
     roll: [u32; LENT_WORDS],
@@ -110,7 +112,7 @@ pub fn start(
 }
 
 // A step's answer, and the words lent to it as it leaves them.
-#[derive(Drop)]
+#[derive(Clone, Copy)]
 struct StepAnswer {
     answer: Stepped,
     roll: [u32; LENT_WORDS],
@@ -146,7 +148,7 @@ pub fn step(table: &[u8], state: &mut [u32], roll: &mut [Arrival], process: u32)
 }
 
 // A service's answer, and the words lent to it as it leaves them.
-#[derive(Drop)]
+#[derive(Clone, Copy)]
 struct ServeAnswer {
     answer: Service,
     roll: [u32; LENT_WORDS],
@@ -189,7 +191,7 @@ pub fn serve(
 }
 
 // A start's answer, and the team's records as it leaves them.
-#[derive(Drop)]
+#[derive(Clone, Copy)]
 pub struct StartRecords {
     pub answer: Verdict,
     pub roll: [Arrival; MOST_PROCESSES],
@@ -222,7 +224,7 @@ pub fn start_on(
 }
 
 // A step's answer, and the team's records as it leaves them.
-#[derive(Drop)]
+#[derive(Clone, Copy)]
 pub struct StepRecords {
     pub answer: Stepped,
     pub roll: [Arrival; MOST_PROCESSES],

@@ -1,4 +1,6 @@
 // What the programs print: the paper's words, on standard output.
+#![tactic(auto)]
+
 ghost use Rattle.std.specs.Prelude.{◌≡◌, ◌≤◌, take};
 ghost use Rattle.rules.specs.Answers.{event_word, team_word};
 
@@ -6,7 +8,7 @@ use libc::STDOUT_FILENO;
 use rules::{Answer, Event, Refusal, TeamStatus};
 
 // A printed word: some bytes, and how many of them are the word's.
-#[derive(Drop)]
+#[derive(Clone, Copy)]
 struct Word([u8; 8], usize);
 
 fn text(bytes: &[u8]) {

@@ -1,5 +1,7 @@
 // Reads a word L, L table bytes, a word for the number of banks, the start words and a byte a turn on standard input, and
 // prints what each turn did.
+#![tactic(auto)]
+
 ghost use Rattle.std.specs.Prelude.{◌≡◌, ◌*◌, ◌/◌, length};
 ghost use Rattle.rules.specs.declared.Verdict.TheVariants.{Accepted};
 ghost use Rattle.rules.specs.Input.{most_input_bytes, question25, run_behind};

@@ -1,5 +1,7 @@
 // Reads a word L, L table bytes, words for the number of banks, the last bank and the number of turns, and the start words,
 // exactly, on standard input. Serves the turns, and prints how many were made, which bank was last, and the site.
+#![tactic(auto)]
+
 ghost use Rattle.std.specs.Prelude.{◌≡◌, ◌*◌, ◌/◌, length};
 ghost use Rattle.rules.specs.declared.Verdict.TheVariants.{Accepted};
 ghost use Rattle.rules.specs.Arrivals.{arrival_size};

@@ -1,5 +1,7 @@
 // Turns shared fairly, round robin: the machine chooses whose turn it is. A call asks the questions of a turn up to 23 once; between
 // two turns of a call only what the first of them may have changed is asked again.
+#![tactic(auto)]
+
 ghost use Rattle.std.specs.Prelude.{true, false, ◌≡◌, ◌+◌, ◌*◌, ◌%◌, ◌<◌, length};
 ghost use Rattle.loops.specs.Upward.{has_leave};
 ghost use Rattle.rules.specs.declared.Verdict.TheVariants.{Accepted};
@@ -25,7 +27,7 @@ use table::shape::refused;
 use table::words::header;
 
 // "how many turns were made and which bank was last", and the refusal, if one was added
-#[derive(Drop)]
+#[derive(Clone, Copy)]
 pub struct Service {
     pub made: u32,
     pub last: u32,

@@ -1,6 +1,8 @@
 // Questions 2 to 12, 26 and 13 to 17 in one exact sweep: each node once, each procedure once, and the least refusal kept. "Lowest number
 // first, then lowest place" is the least of all refusals, so they may be met in any order. Where there are leaves, the nodes are passed
 // over once more for them. Every node counts as what it is here; what a switch leaves out is for crate `switches`.
+#![tactic(auto)]
+
 ghost use Rattle.std.specs.Prelude.{true, ◌≡◌, length, replicate};
 ghost use Rattle.rules.specs.Acceptance.{judged_by};
 ghost use Rattle.rules.specs.Answers.{◌then◌};
@@ -33,14 +35,14 @@ pub mod nodes; // nodes.rt: questions 7, 8, 9, 13 to 16 and 11 of nodes that are
 pub const PLANE_WORDS: usize = PLANES;
 
 // How far a sweep got, and the least refusal of 13 to 16 on the way, as far as that does not look at leaves.
-#[derive(Drop)]
+#[derive(Clone, Copy)]
 pub struct Reached {
     pub node: usize,
     pub rule: usize,
 }
 
 // The same, and whether the bodies stood in their procedures' order and every call went down.
-#[derive(Drop)]
+#[derive(Clone, Copy)]
 pub struct Blocked {
     pub node: usize,
     pub rule: usize,
@@ -48,7 +50,7 @@ pub struct Blocked {
 }
 
 // Of all nodes: the least refusal of 7, 8, 9 and 11, and that of 13 to 16, as far as that does not look at leaves.
-#[derive(Drop)]
+#[derive(Clone, Copy)]
 pub struct Found {
     pub best: usize,
     pub rule: usize,

@@ -1,6 +1,8 @@
 // Questions 13 to 17 of a table with switches: "Of an if with a fixed condition only the branch that will be taken is put to questions 13
 // to 16 and counted for effects and for U1's own conditions". The sweep counts every node, and what it accepts is accepted. Where it
 // refuses by 13 to 17, the statements of dead branches are set aside, a bit a node, and the others are put to the same rules again.
+#![tactic(auto)]
+
 ghost use Rattle.std.specs.Prelude.{◌&&◌, ◌≡◌, leb, length, replicate};
 ghost use Rattle.rules.specs.Acceptance.{judged_by, judged};
 ghost use Rattle.rules.specs.Answers.{◌then◌};

@@ -1,11 +1,13 @@
 // The table (the paper's site table) read out of its bytes; questions 2 to 5, and 6 to 10 of one procedure or node.
+#![tactic(auto)]
+
 pub mod fields; // fields.rt: questions 6 to 10 of one procedure or node
 pub mod marks; // marks.rt: a set of nodes as bits in lent words
 pub mod shape; // shape.rt: questions 2 to 5
 pub mod words; // words.rt: header, words, procedures and nodes out of bytes
 
 // The counts in word 0.
-#[derive(Drop)]
+#[derive(Clone, Copy)]
 pub struct Header {
     pub variables: usize,
     pub procedures: usize,

@@ -1,9 +1,11 @@
 // The value of an expression, in a process's words or as the table fixes it.
+#![tactic(auto)]
+
 pub mod evaluation; // evaluation.rt: the value in a process's words
 pub mod fixing; // fixing.rt: what an expression is fixed as
 
 // What an expression is fixed as: its value, or none.
-#[derive(Drop)]
+#[derive(Clone, Copy)]
 pub enum Fixed {
     Value(u32),
     Nothing,

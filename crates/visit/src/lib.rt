@@ -1,5 +1,7 @@
 // What a visit of a node puts to its questions: 7, 8, 9, 11 as far as its parts were used before, and 13 to 16. The fields and the
 // fact of a node at which nothing fails, for crate `quick`; what that is stuck at is put to `exact`.
+#![tactic(auto)]
+
 use table::Header;
 
 pub mod exact; // exact.rt: what exactly fails at a node
@@ -9,7 +11,7 @@ pub mod least; // least.rt: refusals as numbers
 pub mod noted; // noted.rt: the leaves, a bit a node
 
 // A visit of a node, which may call procedures below `limit`.
-#[derive(Drop)]
+#[derive(Clone, Copy)]
 pub struct Visit {
     pub header: Header,
     pub node: usize,
