@@ -1,0 +1,48 @@
+-- `fields::node_fits` meets its contract, by the law of the roles.
+use Rattle.table.proofs.RoleLaws.{fits_law}
+use Rattle.rules.specs.Table.{decode}
+use Rattle.table.proofs.fields.node_fits.Goals as goal
+
+pub returns-then-not-field_fits : goal.returns-then-not-field_fits
+returns-then-not-field_fits c =
+    let args = c.args in
+    simp (
+      fits_law (decode args.table.now) args.n,
+      ← c.node_at-node.ensures,
+      ← c.role.ensures,
+      ← c.field_fits.ensures,
+      c.if-not-field_fits.true,
+    )
+
+pub returns-then-not-field_fits-2 : goal.returns-then-not-field_fits-2
+returns-then-not-field_fits-2 c =
+    let field-fits = c.field_fits in
+    let args = c.args in
+    simp (
+      fits_law (decode args.table.now) args.n,
+      ← c.node_at-node.ensures,
+      ← c.role.ensures,
+      ← field-fits.ensures,
+      c.if-not-field_fits.false,
+      ← c.role-2.ensures,
+      ← c.field_fits-2.ensures,
+      c.if-not-field_fits-2.true,
+    )
+
+pub returns : goal.returns
+returns c =
+    let field-fits2 = c.field_fits-2 in
+    let field-fits = c.field_fits in
+    let args = c.args in
+    simp (
+      fits_law (decode args.table.now) args.n,
+      ← c.node_at-node.ensures,
+      ← c.role.ensures,
+      ← field-fits.ensures,
+      c.if-not-field_fits.false,
+      ← c.role-2.ensures,
+      ← field-fits2.ensures,
+      c.if-not-field_fits-2.false,
+      ← c.role-3.ensures,
+      ← c.field_fits-3.ensures,
+    )
