@@ -1,0 +1,53 @@
+-- `fields::take_fields` meets its contract: fields that are free are marked one after the other.
+use mathlib.Core.Path.{refl, sym}
+use native.Mathlib.Omega.{arith}
+use Rattle.table.proofs.TestLaws.{never}
+use Rattle.visit.proofs.LeastLaws.{passed, failed}
+use Rattle.visit.proofs.QuickLaws.{markable, three, part_low, used-three}
+use borrow.Author.Rules.{rules}
+use Rattle.visit.proofs.fields.take_fields.Goals as goal
+
+pub returns-then-not-fields_free : goal.returns-then-not-fields_free
+returns-then-not-fields_free c =
+    record {
+      value = sym (failed c.fields_free.ensures c.if-not-fields_free.true-raw);
+      used = λ e. never (sym e);
+      marks_unchanged = λ e. refl;
+    }
+
+pub take-requires : goal.take-requires
+take-requires c =
+    let given = c.requires in
+    let t = three _ _ _ _ _ (passed c.fields_free.ensures c.if-not-fields_free.false-raw) in
+    rw c.digit.ensures (
+      λ part. markable given.0 given.1 (part_low _ _ _ _ _ t.a part),
+      given.2,
+    )
+
+pub take-requires-2 : goal.take-requires-2
+take-requires-2 c =
+    let given = c.requires in
+    let t = three _ _ _ _ _ (passed c.fields_free.ensures c.if-not-fields_free.false-raw) in
+    rw c.digit-2.ensures (
+      λ part. markable given.0 given.1 (part_low _ _ _ _ _ t.b part),
+      omega (arith, c.take.auto.marks, given.2),
+    )
+
+pub take-requires-3 : goal.take-requires-3
+take-requires-3 c =
+    let given = c.requires in
+    let t = three _ _ _ _ _ (passed c.fields_free.ensures c.if-not-fields_free.false-raw) in
+    rw c.digit-3.ensures (
+      λ part. markable given.0 given.1 (part_low _ _ _ _ _ t.c part),
+      omega (arith, c.take.auto.marks, c.take-2.auto.marks, given.2),
+    )
+
+pub returns : goal.returns
+returns c =
+    let so = passed c.fields_free.ensures c.if-not-fields_free.false-raw in
+    let used =
+    used-three _ _ _ _
+    (rw c.digit.ensures at c.take.ensures)
+    (rw c.digit-2.ensures at c.take-2.ensures)
+    (rw c.digit-3.ensures at c.take-3.ensures) in
+    record { value = sym so; used = λ e. record { free = so; used = used }; marks_unchanged = λ e. never e }
