@@ -1,0 +1,16 @@
+-- `values::evaluation::both` meets its contract.
+use Rattle.rules.specs.Evaluation.{applied}
+use Rattle.std.proofs.Common.{eq-eqb, ne_eqb}
+use Rattle.values.proofs.evaluation.both.Goals as goal
+
+pub returns-then-x-eq0 : goal.returns-then-x-eq0
+unfolding applied
+returns-then-x-eq0 c = simp (eq-eqb _ _ c.if-x-eq0.true)
+
+pub returns-then-y-eq0 : goal.returns-then-y-eq0
+unfolding applied
+returns-then-y-eq0 c = simp (ne_eqb _ _ c.if-x-eq0.false, eq-eqb _ _ c.if-y-eq0.true)
+
+pub returns-else-y-eq0 : goal.returns-else-y-eq0
+unfolding applied
+returns-else-y-eq0 c = simp (ne_eqb _ _ c.if-x-eq0.false, ne_eqb _ _ c.if-y-eq0.false)
