@@ -1,0 +1,16 @@
+-- `pass_nodes` meets its contract. The loop's invariant: the nodes so far are passed.
+use mathlib.Core.Path.{◌≡◌, sym, ◌∙◌}
+use Prim.Native.Nat.{◌-◌, ◌≤◌}
+use native.Mathlib.Omega.{arith}
+use Rattle.leaves.specs.Leaves.{NodesPassed}
+use Rattle.leaves.proofs.PassLaws.{stretch_none, stretch_more}
+use Rattle.rules.specs.Table.{decode}
+use Rattle.leaves.proofs.pass_nodes.Given as goal
+
+abbrev pub invariant-loop-n : goal.invariant-loop-n
+invariant-loop-n l =
+    (l.first ≤ l.n) × (l.n ≤ l.end) × NodesPassed (decode l.table) l.first l.n l.start l.initial.planes l.planes l.least
+
+abbrev pub decreases-loop-n : goal.decreases-loop-n
+decreases-loop-n l =
+    l.end - l.n

@@ -1,0 +1,6 @@
+-- `process::step::call` meets its contract.
+use borrow.Author.Rules.{rules}
+use Rattle.process.proofs.step.call.Goals as goal
+
+pub returns : goal.returns
+returns c = rw (← c.body-entry.ensures) c.replace.ensures
