@@ -1,0 +1,48 @@
+-- `collectives::arrivals::all_at_one_node` meets its contract. The loop has passed only processes that wait at process 0's node.
+use Rattle.collectives.proofs.DownLaws.{PassedFrom, from-none, from_more, from_all}
+use Rattle.rules.proofs.ChoiceLaws.{all_true}
+use Rattle.rules.proofs.StatusLaws.{one_node_not_waiting, one_node_elsewhere}
+use Rattle.rules.proofs.AnswerLaws.{both_true}
+use Rattle.rules.specs.Arrivals.{waiting, status_at, arrival_node, all_at_one_node}
+use borrow.Author.Tests.{eq-eqb}
+use lib.Dec.{eqb}
+use native.Mathlib.Omega.{arith}
+use Prim.Native.Nat.{ℕ, ◌-◌, ◌≤◌}
+use mathlib.Core.Path.{sym, ◌∙◌}
+use mathlib.Core.List.{List}
+use mathlib.Core.Bool.{Bool, ◌&&◌}
+use Rattle.collectives.proofs.arrivals.all_at_one_node.Invariants.{waits_there}
+use Rattle.collectives.proofs.arrivals.all_at_one_node.Goals as goal
+
+pub loop-p-init : goal.loop-p-init
+loop-p-init c = (omega arith, from-none _ _)
+
+pub returns-then-status_at-ne-WAITING : goal.returns-then-status_at-ne-WAITING
+returns-then-status_at-ne-WAITING c =
+    let loop = c.loop-p in
+    sym (one_node_not_waiting _ _ (loop.p - 1) (omega (arith, loop.invariant.0, c.loop-p-test.true))
+    (λ e. c.if-status_at-ne-WAITING.true (c.status_at.ensures ∙ e)))
+
+pub returns-then-node_of-node : goal.returns-then-node_of-node
+returns-then-node_of-node c =
+    let loop = c.loop-p in
+    let node_of = c.node_of-node in
+    sym (one_node_elsewhere _ _ (loop.p - 1) (omega (arith, loop.invariant.0, c.loop-p-test.true))
+    (λ e. c.if-node_of-node.true (c.node_of.ensures ∙ e ∙ sym node_of.ensures)))
+
+pub loop-p-preserved : goal.loop-p-preserved
+loop-p-preserved c =
+    let loop = c.loop-p in
+    let node_of = c.node_of-node in (
+      omega (arith, loop.invariant.0),
+      from_more _ loop.p _ c.loop-p-test.true loop.invariant.1
+          (both_true _ _ (eq-eqb _ _ (sym c.status_at.ensures ∙ c.if-status_at-ne-WAITING.false))
+          (eq-eqb _ _ (sym c.node_of.ensures ∙ c.if-node_of-node.false ∙ node_of.ensures))),
+    )
+
+pub returns : goal.returns
+unfolding all_at_one_node
+returns c =
+    let args = c.args in
+    sym (all_true (waits_there args.roll.now) args.count
+    (from_all (waits_there args.roll.now) c.loop-p.p args.count c.loop-p-test.false c.loop-p.invariant.1))

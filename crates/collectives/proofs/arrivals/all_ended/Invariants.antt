@@ -1,0 +1,23 @@
+-- `collectives::arrivals::all_ended` meets its contract. The loop has passed only processes that have ended.
+use Rattle.rules.proofs.ChoiceLaws.{passed_none, passed-more}
+use Rattle.rules.proofs.ChoiceLaws.{Passed, all_true, all-false}
+use Rattle.rules.specs.Arrivals.{ended, status_at}
+use borrow.Author.Tests.{eq-eqb, ne_eqb}
+use lib.Dec.{eqb}
+use native.Mathlib.Omega.{arith}
+use Prim.Native.Nat.{ℕ, ◌-◌, ◌≤◌}
+use mathlib.Core.Path.{◌≡◌, sym, ◌∙◌}
+use mathlib.Core.List.{List}
+use mathlib.Core.Bool.{Bool}
+use Rattle.collectives.proofs.arrivals.all_ended.Given as goal
+
+abbrev pub over : List ℕ → ℕ → Bool
+over roll p = eqb (status_at roll p) ended
+
+abbrev pub invariant-loop-p : goal.invariant-loop-p
+invariant-loop-p l =
+    (l.p ≤ l.count) × Passed (over l.roll) l.p
+
+abbrev pub decreases-loop-p : goal.decreases-loop-p
+decreases-loop-p l =
+    l.count - l.p

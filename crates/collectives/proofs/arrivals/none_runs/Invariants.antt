@@ -1,0 +1,23 @@
+-- `collectives::arrivals::none_runs` meets its contract. The loop has passed only processes that do not run.
+use Rattle.collectives.proofs.DownLaws.{PassedFrom, from-none, from_more, from_all}
+use Rattle.rules.proofs.ChoiceLaws.{all_true, all-false}
+use Rattle.rules.specs.Arrivals.{running, status_at}
+use borrow.Author.Tests.{eq-eqb, ne_eqb}
+use lib.Dec.{eqb}
+use native.Mathlib.Omega.{arith}
+use Prim.Native.Nat.{ℕ, ◌-◌, ◌≤◌}
+use mathlib.Core.Path.{sym, ◌∙◌, ap}
+use mathlib.Core.List.{List}
+use mathlib.Core.Bool.{Bool, not}
+use Rattle.collectives.proofs.arrivals.none_runs.Given as goal
+
+abbrev pub stopped : List ℕ → ℕ → Bool
+stopped roll p = not (eqb (status_at roll p) running)
+
+abbrev pub invariant-loop-p : goal.invariant-loop-p
+invariant-loop-p l =
+    (l.p ≤ l.count) × PassedFrom (stopped l.roll) l.p l.count
+
+abbrev pub decreases-loop-p : goal.decreases-loop-p
+decreases-loop-p l =
+    l.p

@@ -1,0 +1,15 @@
+-- `collectives::arrivals::read` meets its contract.
+use Rattle.collectives.specs.Given.{arrival_at}
+use borrow.Author.Rules.{rules}
+use Rattle.collectives.proofs.arrivals.read.Goals as goal
+
+pub returns : goal.returns
+unfolding arrival_at
+returns c =
+    simp (
+      c.status_of-status.ensures,
+      c.status_at.ensures,
+      c.node_of.ensures,
+      c.value_of.ensures,
+      c.source_of.ensures,
+    )
