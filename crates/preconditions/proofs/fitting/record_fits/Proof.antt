@@ -14,113 +14,113 @@ use Rattle.preconditions.proofs.fitting.record_fits.Statement.{statement}
 use Rattle.preconditions.proofs.fitting.record_fits.Tie as tie
 use Rattle.rules.specs.Table.{decode}
 
-status-at-requires : tie.Need-status-at-requires
+status-at-requires : tie.Need-status_at-status-requires
 status-at-requires c κs = search rules
 
-shared-slice-read-empty : tie.Need-shared-slice-read-empty
+shared-slice-read-empty : tie.Need-bounds-words-120
 shared-slice-read-empty c = search rules
 
-fields-zero-requires : tie.Need-fields-zero-requires
+fields-zero-requires : tie.Need-fields_zero-requires
 fields-zero-requires c κs = search rules
 
-returns : tie.Need-returns
+returns : tie.Need-returns-then-empty
 unfolding record_fits
 returns c =
-    rw (sym c.before.before.before.before.status-at.ensures ∙ c.before.before.if1.true, c.before.if2.true)
-    c.fields-zero.ensures
+    rw (sym c.status_at-status.ensures ∙ c.if-status-eq-ENDED.true, c.if-empty.true-raw)
+    c.fields_zero.ensures
 
-returns-2 : tie.Need-returns-2
+returns-2 : tie.Need-returns-then-status-eq-ENDED
 unfolding record_fits
-returns-2 c = rw (sym c.before.before.before.status-at.ensures ∙ c.before.if1.true, c.if2.false)
+returns-2 c = rw (sym c.status_at-status.ensures ∙ c.if-status-eq-ENDED.true, c.if-empty.false-raw)
 
-returns-3 : tie.Need-returns-3
+returns-3 : tie.Need-returns-then-empty-2
 returns-3 c =
-    sym (record_empty _ _ _ _ (λ e. c.before.if1.false (c.before.before.before.status-at.ensures ∙ e)) c.if3.true)
+    sym (record_empty _ _ _ _ (λ e. c.if-status-eq-ENDED.false (c.status_at-status.ensures ∙ e)) c.if-empty-2.true-raw)
 
-fields-zero-requires-2 : tie.Need-fields-zero-requires-2
+fields-zero-requires-2 : tie.Need-fields_zero-requires-then-status-eq-RUNNING
 fields-zero-requires-2 c κs = search rules
 
-returns-4 : tie.Need-returns-4
+returns-4 : tie.Need-returns-then-not-fields_zero
 unfolding record_fits
 returns-4 c =
     let chosen = c.before.before in
     rw (
-      sym chosen.before.before.before.before.status-at.ensures ∙ chosen.if4.true,
-      chosen.before.if3.false,
-      sym c.before.fields-zero2.ensures ∙ not-true _ c.if5.true,
+      sym chosen.status_at-status.ensures ∙ chosen.if-status-eq-RUNNING.true,
+      chosen.if-empty-2.false-raw,
+      sym c.fields_zero-then-status-eq-RUNNING.ensures ∙ not-true _ c.if-not-fields_zero.true-raw,
     )
 
 -- past the third test, the stack holds an entry
-abbrev start : tie.Else3 → tie.Start
+abbrev start : tie.Else-empty-2 → tie.Start
 start c = c.before.before.before.before.before.before.before
 
-stacked : (c : tie.Else3) → Stacked (start c).args.words.now
+stacked : (c : tie.Else-empty-2) → Stacked (start c).args.words.now
 stacked c =
     let words = (start c).args.words.now in
-    let some : get_or words depth_at 0 ≡ 0 → ⊥ = eqb-false (get_or words depth_at 0) 0 c.if3.false in
+    let some : get_or words depth_at 0 ≡ 0 → ⊥ = eqb-false (get_or words depth_at 0) 0 c.if-empty-2.false-raw in
     record { sized = (start c).requires.1; held = omega arith; bounded = (start c).requires.2 }
 
-on_top : (c : tie.Else3) → is_statement (decode (start c).args.table.now) (top (start c).args.words.now) ≡ true
+on_top : (c : tie.Else-empty-2) → is_statement (decode (start c).args.table.now) (top (start c).args.words.now) ≡ true
 on_top c = top-fits _ _ (start c).requires.4 (stacked c).held
 
-leave-on-top-requires : tie.Need-leave-on-top-requires
+leave-on-top-requires : tie.Need-leave_on_top-requires
 leave-on-top-requires c κs =
     let past = c.before.before.before in
     ((start past).requires.0, stacked past, on_top past)
 
-returns-5 : tie.Need-returns-5
+returns-5 : tie.Need-returns-then-not-leave_on_top
 unfolding record_fits leave_fits
 returns-5 c =
     let fits = c.before.before.before in
     let chosen = fits.before in
     rw (
-      sym chosen.before.before.before.before.status-at.ensures ∙ chosen.if4.true,
-      chosen.before.if3.false,
-      sym fits.fields-zero2.ensures ∙ not-false _ c.before.before.if5.false,
-      sym c.before.leave_on_top.ensures ∙ not-true _ c.if6.true,
+      sym chosen.status_at-status.ensures ∙ chosen.if-status-eq-RUNNING.true,
+      chosen.if-empty-2.false-raw,
+      sym fits.fields_zero-then-status-eq-RUNNING.ensures ∙ not-false _ c.if-not-fields_zero.false-raw,
+      sym c.leave_on_top.ensures ∙ not-true _ c.if-not-leave_on_top.true-raw,
     )
 
-leave-fits-requires : tie.Need-leave-fits-requires
+leave-fits-requires : tie.Need-leave_fits-requires
 leave-fits-requires c κs =
     let past = c.before.before.before.before.before in (
       (start past).requires.0,
       stacked past,
       on_top past,
-      sym c.before.leave_on_top.ensures ∙ not-false _ c.if6.false,
+      sym c.leave_on_top.ensures ∙ not-false _ c.if-not-leave_on_top.false-raw,
     )
 
-returns-6 : tie.Need-returns-6
+returns-6 : tie.Need-returns-then-status-eq-RUNNING
 unfolding record_fits
 returns-6 c =
     let fits = c.before.before.before.before in
     let chosen = fits.before in
     rw (
-      sym chosen.before.before.before.before.status-at.ensures ∙ chosen.if4.true,
-      chosen.before.if3.false,
-      sym fits.fields-zero2.ensures ∙ not-false _ c.before.before.before.if5.false,
+      sym chosen.status_at-status.ensures ∙ chosen.if-status-eq-RUNNING.true,
+      chosen.if-empty-2.false-raw,
+      sym fits.fields_zero-then-status-eq-RUNNING.ensures ∙ not-false _ c.if-not-fields_zero.false-raw,
     )
     c.leave_fits.ensures
 
-wait-fits-requires : tie.Need-wait-fits-requires
+wait-fits-requires : tie.Need-wait_fits-requires
 wait-fits-requires c κs =
     let past = c.before.before in
     ((start past).requires.0, stacked past, (start past).requires.3, on_top past)
 
-returns-7 : tie.Need-returns-7
+returns-7 : tie.Need-returns-then-status-eq-WAITING
 unfolding record_fits
 returns-7 c =
-    let status-at = c.before.before.before.before.before.before.status-at in
-    rw (sym status-at.ensures ∙ c.before.if7.true, c.before.before.before.if3.false) c.wait-fits.ensures
+    let status-at = c.status_at-status in
+    rw (sym status-at.ensures ∙ c.if-status-eq-WAITING.true, c.if-empty-2.false-raw) c.wait_fits.ensures
 
-returns-8 : tie.Need-returns-8
+returns-8 : tie.Need-returns
 unfolding record_fits
 returns-8 c =
-    let status-at = c.before.before.before.before.before.status-at in
+    let status-at = c.status_at-status in
     rw (
       ← status-at.ensures,
-      ne_eqb _ _ c.before.if4.false,
-      ne_eqb _ _ c.if7.false,
-      ne_eqb _ _ c.before.before.before.if1.false,
+      ne_eqb _ _ c.if-status-eq-RUNNING.false,
+      ne_eqb _ _ c.if-status-eq-WAITING.false,
+      ne_eqb _ _ c.if-status-eq-ENDED.false,
     )
 
 pub record_fits_spec : {M : Type 1} → statement M

@@ -9,8 +9,7 @@ use lib.Dec.{eqb}
 use native.Mathlib.Decide.{ℕ_discrete}
 use mathlib.Core.Path.{◌≡◌, ◌∙◌, ap}
 use borrow.Author.Rules.{rules}
-use Rattle.preconditions.proofs.fitting.leave_on_top.Statement.{statement}
-use Rattle.preconditions.proofs.fitting.leave_on_top.Tie as tie
+use Rattle.preconditions.proofs.fitting.leave_on_top.Goals as goal
 
 is-leave : (m : Node) → eqb m.kind 26 ≡ is_leave (statement_of m)
 is-leave m =
@@ -19,23 +18,14 @@ is-leave m =
       | no n ↦ rw (ne_eqb m.kind 26 n, no-leave m n)
     ]
 
-top-requires : tie.Need-top-requires
-top-requires c κs = search rules
+pub kind_at-requires : goal.kind_at-requires
+kind_at-requires c =
+    let given = c.requires in
+    readable (read-built given.0) (rw c.top-n.ensures (statement-below _ (read-formed given.0) _ given.2))
 
-cast-n : tie.Need-overflow-cast-n
-cast-n c = search rules
-
-kind-at-requires : tie.Need-kind-at-requires
-kind-at-requires c κs =
-    let given = c.before.before.before.requires in
-    readable (read-built given.0) (rw c.top.ensures (statement-below _ (read-formed given.0) _ given.2))
-
-returns : tie.Need-returns
+pub returns : goal.returns
 unfolding statement_at
 returns c =
-    let table = c.before.before.before.before.args.table.now in
-    let same = c.kind_at.ensures ∙ ap (λ n. (node_at (decode table) n).kind) c.before.top.ensures in
+    let table = c.args.table.now in
+    let same = c.kind_at.ensures ∙ ap (λ n. (node_at (decode table) n).kind) c.top-n.ensures in
     ap (λ k. eqb k 26) same ∙ is-leave (node_at (decode table) _)
-
-pub leave_on_top_spec : {M : Type 1} → statement M
-leave_on_top_spec = tie.close (tie.spec top-requires cast-n kind-at-requires returns)

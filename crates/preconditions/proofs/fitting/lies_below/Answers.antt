@@ -1,0 +1,40 @@
+-- `preconditions::fitting::lies_below` meets its contract. The loop has passed only entries that are not the node.
+use mathlib.Core.Bool.{Bool, not}
+use mathlib.Core.List.{List}
+use mathlib.Core.Path.{sym, ap}
+use Prim.Native.Nat.{ℕ, ◌+◌, ◌-◌, ◌≤◌}
+use native.Mathlib.Omega.{arith}
+use lib.Dec.{eqb}
+use lib.ListN.{get_or}
+use borrow.Author.Tests.{eq-eqb, ne_eqb}
+use Rattle.rules.specs.Process.{stack_at}
+use Rattle.rules.proofs.ChoiceLaws.{Passed, passed_none, passed-more, all_true, all-false}
+use Rattle.preconditions.proofs.fitting.lies_below.Invariants.{other}
+use Rattle.preconditions.proofs.fitting.lies_below.Goals as goal
+
+pub loop-height-init : goal.loop-height-init
+loop-height-init c = (omega arith, passed_none _)
+
+pub overflow_cast-words : goal.overflow_cast-words
+overflow_cast-words c = omega (arith, c.shared_slice_known-in-loop-height-1.given (stack_at + c.loop-height.height))
+
+pub returns-then-words-at : goal.returns-then-words-at
+returns-then-words-at c =
+    let args = c.args in
+    ap not
+    (sym (all-false (other args.words.now args.w) _ c.loop-height.height c.loop-height-test.true
+    (ap not (eq-eqb _ _ c.if-words-at.true))))
+
+pub loop-height-preserved : goal.loop-height-preserved
+loop-height-preserved c =
+    let args = c.args in (
+      omega arith,
+      passed-more (other args.words.now args.w) c.loop-height.height c.loop-height.invariant.1 (ap not (ne_eqb _ _ c.if-words-at.false)),
+    )
+
+pub returns : goal.returns
+returns c =
+    let args = c.args in
+    ap not
+    (sym (all_true (other args.words.now args.w) _
+    (λ k l. c.loop-height.invariant.1 k (omega arith))))

@@ -1,0 +1,23 @@
+-- `preconditions::fitting::lies_below` meets its contract. The loop has passed only entries that are not the node.
+use mathlib.Core.Bool.{Bool, not}
+use mathlib.Core.List.{List}
+use mathlib.Core.Path.{sym, ap}
+use Prim.Native.Nat.{ℕ, ◌+◌, ◌-◌, ◌≤◌}
+use native.Mathlib.Omega.{arith}
+use lib.Dec.{eqb}
+use lib.ListN.{get_or}
+use borrow.Author.Tests.{eq-eqb, ne_eqb}
+use Rattle.rules.specs.Process.{stack_at}
+use Rattle.rules.proofs.ChoiceLaws.{Passed, passed_none, passed-more, all_true, all-false}
+use Rattle.preconditions.proofs.fitting.lies_below.Given as goal
+
+abbrev pub other : List ℕ → ℕ → ℕ → Bool
+other words w i = not (eqb (get_or words (stack_at + i) 0) w)
+
+abbrev pub invariant-loop-height : goal.invariant-loop-height
+invariant-loop-height l =
+    (l.height ≤ l.below) × Passed (other l.words l.w) l.height
+
+abbrev pub decreases-loop-height : goal.decreases-loop-height
+decreases-loop-height l =
+    l.below - l.height
