@@ -66,12 +66,12 @@ noted-code m count low n few l =
     ⊎_elim (λ (e : bit_at m n ≡ true). simp e (misused-min count n low few l)) (λ (e : bit_at m n ≡ false). simp e)
     (bool_cases (bit_at m n))
 
-repeated-code : (m : List ℕ) (count low : ℕ) {list : List ℕ} → count ≤ 256 → Inside count list
+repeated-code : (count : ℕ) (m : List ℕ) (low : ℕ) {list : List ℕ} → count ≤ 256 → Inside count list
     → repeated_code m (misused count low) list ≡ misused count (repeated m low list)
 unfolding repeated_code repeated
-repeated-code m count low few empty = refl
-repeated-code m count low few (more {n} {list} l h) =
-    rw (noted-code m count low n few l) (repeated-code (with_bit m n) count (noted m low n) few h)
+repeated-code count m low few empty = refl
+repeated-code count m low few (more {n} {list} l h) =
+    rw (noted-code m count low n few l) (repeated-code count (with_bit m n) (noted m low n) few h)
 
 -- one step of a sweep: a refusal by an earlier question, or uses
 
@@ -87,7 +87,7 @@ module _ {count early best : ℕ} {list marks : List ℕ} (few : count ≤ 256) 
   passes parts inside (failed e low) = failed (repeated-low marks best parts (omega arith) ∙ e) low
   passes parts inside (clean e is m) =
       clean e
-      (rw (is, m) (repeated-code (with_bits zeros list) count (repeated zeros count list) few (inside e)
+      (rw (is, m) (repeated-code count (with_bits zeros list) (repeated zeros count list) few (inside e)
       ∙ ap (misused count) (sym (repeated_append zeros count list parts))))
       (rw m (sym (bits_append zeros list parts)))
 

@@ -1,0 +1,18 @@
+-- `bodies::unflagged` meets its contract: the least refusal so far is that of the nodes and of the procedures asked.
+use mathlib.Core.Path.{◌≡◌}
+use Prim.Native.Nat.{◌≤◌, ◌-◌, min}
+use native.Mathlib.Omega.{arith}
+use Rattle.rules.specs.Table.{decode, procedures}
+use Rattle.visit.specs.Fields.{facts_plane}
+use Rattle.visit.specs.Least.{least_below}
+use Rattle.visit.proofs.LeastLaws.{least_more, least-high}
+use Rattle.sweep.specs.Asked.{effect_code}
+use Rattle.sweep.proofs.bodies.unflagged.Given as goal
+
+abbrev pub invariant-loop-p : goal.invariant-loop-p
+invariant-loop-p l =
+    (l.p ≤ l.count) × (l.best ≡ min l.rule (least_below (effect_code (decode l.table) (facts_plane l.planes)) l.p))
+
+abbrev pub decreases-loop-p : goal.decreases-loop-p
+decreases-loop-p l =
+    l.count - l.p

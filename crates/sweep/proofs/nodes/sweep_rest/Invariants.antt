@@ -1,0 +1,18 @@
+-- `nodes::sweep_rest` meets its contract. The loop's invariant: the nodes so far are swept, and something fails at the next.
+use mathlib.Core.Path.{◌≡◌, sym, ◌∙◌}
+use lib.ListN.{length}
+use Prim.Native.Nat.{◌-◌}
+use native.Mathlib.Omega.{arith}
+use borrow.Author.Rules.{rules}
+use Rattle.visit.proofs.PlaneLaws.{used-length, length_put_used}
+use Rattle.sweep.proofs.NodeLaws.{Resting, resting_none, resting_more, resting_ends}
+use Rattle.rules.specs.Table.{decode}
+use Rattle.sweep.proofs.nodes.sweep_rest.Given as goal
+
+abbrev pub invariant-loop-reached : goal.invariant-loop-reached
+invariant-loop-reached l =
+    Resting (decode l.table) l.planes l.best l.reached
+
+abbrev pub decreases-loop-reached : goal.decreases-loop-reached
+decreases-loop-reached l =
+    l.count - l.reached.node
