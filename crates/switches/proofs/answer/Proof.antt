@@ -17,78 +17,74 @@ use borrow.Author.Rules.{rules}
 use Rattle.switches.proofs.answer.Statement.{statement}
 use Rattle.switches.proofs.answer.Tie as tie
 
-sub-accepted : tie.Need-overflow-sub-accepted
+sub-accepted : tie.Need-slice_bounds-accepted-count
 sub-accepted c = search rules
 
-part-accepted-start : tie.Need-slice-bounds-accepted-start
+part-accepted-start : tie.Need-slice_bounds-accepted-start
 part-accepted-start c = search rules
 
-part-accepted-end : tie.Need-slice-bounds-accepted-end
-part-accepted-end c = omega (arith, ap length c.before.before.requires)
+part-accepted-end : tie.Need-slice_bounds-accepted-end
+part-accepted-end c = omega (arith, ap length c.requires)
 
-accepted-requires : tie.Need-accepted-requires
+accepted-requires : tie.Need-accepted-whole-requires
 accepted-requires c κs = search rules
 
-enum_told : tie.Need-enum-told
+enum_told : tie.Need-enum_told-1
 enum_told c = search rules
 
-enum-known-whole : tie.Need-enum-known-whole
+enum-known-whole : tie.Need-enum_known-whole
 enum-known-whole c = search rules
 
-by-rules-requires : tie.Need-by-rules-requires
+by-rules-requires : tie.Need-by_rules-requires
 by-rules-requires c κs = search rules
 
 -- a refusal by 13 to 17 is of a table that passes 2 to 12 and 26
-abbrev table : tie.Then1 → List ℕ
-table told = told.before.before.before.before.before.before.before.before.before.before.before.args.table.now
+abbrev table : tie.Then-by_rules → List ℕ
+table told = told.args.table.now
 
-by_13_to_17 : (told : tie.Then1) → (well_formed (table told) ≡ Accepted)
-    × (Refused told.before.before.before.whole.given.0.0 ≡ judged_by (decode (table told)) (statement_at (decode (table told))))
+by_13_to_17 : (told : tie.Then-by_rules) → (well_formed (table told) ≡ Accepted)
+    × (Refused told.in-Refused.refusal ≡ judged_by (decode (table told)) (statement_at (decode (table told))))
 by_13_to_17 told =
-    refused-judged (table told) _ (sym told.before.before.before.whole.given.1 ∙ told.before.before.before.before.before.before.before.accepted.ensures)
-    (sym told.before.by-rules.ensures ∙ told.if1.true)
+    refused-judged (table told) _ (sym told.in-Refused.is ∙ told.accepted-whole.ensures)
+    (sym told.by_rules.ensures ∙ told.if-by_rules.true)
 
 header-requires : tie.Need-header-requires
 header-requires c κs = omega (arith, exact (table c) (by_13_to_17 c).0)
 
-judge-again-requires : tie.Need-judge-again-requires
+judge-again-requires : tie.Need-judge_again-requires
 judge-again-requires c κs =
-    let told = c.before.before in
-    let swept = told.before.before.before.before.before.before.before in
-    let start = swept.before.before.before.before in
-    let planes = start.args.planes.now in
-    let size = ap length start.requires in
-    let words = swept.accepted.new.1.0 in
-    let many = swept.accepted.auto.1.0 ∙ work-length planes size in (
-      record { passed = (by_13_to_17 told).0; headed = c.before.header.ensures },
+    let planes = c.args.planes.now in
+    let size = ap length c.requires in
+    let words = c.accepted-whole.new.planes in
+    let many = c.accepted-whole.auto.planes ∙ work-length planes size in (
+      record { passed = (by_13_to_17 c.before.before).0; headed = c.header.ensures },
       length_put_work planes size words many,
-      aside_put_work planes size words many ∙ ap aside_plane start.requires,
-      (by_13_to_17 told).1,
+      aside_put_work planes size words many ∙ ap aside_plane c.requires,
+      (by_13_to_17 c.before.before).1,
     )
 
-same_length : tie.Need-same-length
+same_length : tie.Need-shape_of-planes-then-by_rules
 same_length c = search rules
 
-returns : tie.Need-returns
+returns : tie.Need-returns-then-by_rules
 returns c =
-    let told = c.before.before.before.before.before in
-    c.before.before.judge-again.ensures ∙ sym (ap (λ v. v then judged (decode (table told))) (by_13_to_17 told).0)
+    c.judge_again.ensures ∙ sym (ap (λ v. v then judged (decode (table c.before.before.before.before.before))) (by_13_to_17 c.before.before.before.before.before).0)
 
-same-length-2 : tie.Need-same-length-2
+same-length-2 : tie.Need-shape_of-planes-in-Accepted
 same-length-2 c = search rules
 
-returns-2 : tie.Need-returns-2
+returns-2 : tie.Need-returns-in-Accepted
 returns-2 c =
-    let same = c.before.before.before.before.accepted.ensures in
-    c.enum_told.given.1 ∙ sym (whole-accepted _ (sym same ∙ c.enum_told.given.1))
+    let same = c.accepted-whole.ensures in
+    c.in-Accepted.is ∙ sym (whole-accepted _ (sym same ∙ c.in-Accepted.is))
 
-same-length-3 : tie.Need-same-length-3
+same-length-3 : tie.Need-shape_of-planes-else-by_rules
 same-length-3 c = search rules
 
-returns-3 : tie.Need-returns-3
+returns-3 : tie.Need-returns-else-by_rules
 returns-3 c =
-    refused-formed _ _ (sym c.before.before.before.whole.given.1 ∙ c.before.before.before.before.before.before.before.accepted.ensures)
-    (sym c.before.by-rules.ensures ∙ c.if1.false)
+    refused-formed _ _ (sym c.in-Refused.is ∙ c.accepted-whole.ensures)
+    (sym c.by_rules.ensures ∙ c.if-by_rules.false)
 
 pub answer_spec : {M : Type 1} → statement M
 answer_spec =

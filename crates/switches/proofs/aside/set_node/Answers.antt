@@ -1,0 +1,27 @@
+-- `aside::set_node` meets its contract.
+use mathlib.Core.Path.{sym, ◌∙◌}
+use native.Mathlib.Omega.{arith}
+use Rattle.table.proofs.PassingLaws.{read-formed, readable, read-built}
+use Rattle.switches.specs.Aside.{aside_marks}
+use Rattle.switches.proofs.PartsLaws.{plain-marks}
+use borrow.Author.Rules.{rules}
+use Rattle.switches.proofs.aside.set_node.Goals as goal
+
+pub kind_at-requires : goal.kind_at-requires
+kind_at-requires c = readable (read-built c.requires.0) c.requires.1
+
+pub returns-then-kind_at-lt18 : goal.returns-then-kind_at-lt18
+returns-then-kind_at-lt18 c = sym (plain-marks _ _ _ (omega (arith, c.kind_at.ensures, c.if-kind_at-lt18.true)))
+
+pub marked-requires : goal.marked-requires
+marked-requires c =
+    let (read, low, size) = c.requires in
+    omega (arith, low, size, (read-formed read).nodes-high)
+
+pub returns-then-marked : goal.returns-then-marked
+unfolding aside_marks
+returns-then-marked c = simp (sym c.marked.ensures ∙ c.if-marked.true) c.set_parts.ensures
+
+pub returns-else-marked : goal.returns-else-marked
+unfolding aside_marks
+returns-else-marked c = simp (sym c.marked.ensures ∙ c.if-marked.false) c.set_branch.ensures
