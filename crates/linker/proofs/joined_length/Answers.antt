@@ -1,0 +1,35 @@
+-- `joined_length` meets its contract.
+use borrow.Author.Rules.{rules}
+use mathlib.Core.Path.{sym, ◌∙◌}
+use native.Mathlib.Omega.{arith}
+use Rattle.linker.specs.Linking.{joined_length}
+use Rattle.linker.proofs.LinkLaws.{both_formed}
+use Rattle.linker.proofs.PairLaws.{counts-there}
+use Rattle.linker.proofs.WordLaws.{joinable-by, counts-fit, bytes-joined, bytes-few}
+use Rattle.linker.proofs.joined_length.Goals as goal
+
+pub both_counts-requires : goal.both_counts-requires
+both_counts-requires c =
+    let formed = both_formed _ _ (sym c.ask-asked.ensures ∙ c.in-Joined.is) in
+    (counts-there _ formed.0, counts-there _ formed.1)
+
+pub joined_bytes-requires : goal.joined_bytes-requires
+joined_bytes-requires c =
+    let passed = sym c.ask-asked.ensures ∙ c.in-Joined.is in
+    counts-fit (joinable-by passed c.both_counts.ensures)
+
+pub returns-in-Joined : goal.returns-in-Joined
+unfolding joined_length
+returns-in-Joined c =
+    let passed = sym c.ask-asked.ensures ∙ c.in-Joined.is in
+    let given = joinable-by passed c.both_counts.ensures in
+    let size = c.joined_bytes.ensures in
+    (rw passed (size ∙ bytes-joined given), omega (arith, size, bytes-few given))
+
+pub returns-in-OfLibrary : goal.returns-in-OfLibrary
+unfolding joined_length
+returns-in-OfLibrary c = (rw (sym c.ask-asked.ensures ∙ c.in-OfLibrary.is), omega arith)
+
+pub returns-in-OfProgram : goal.returns-in-OfProgram
+unfolding joined_length
+returns-in-OfProgram c = (rw (sym c.ask-asked.ensures ∙ c.in-OfProgram.is), omega arith)

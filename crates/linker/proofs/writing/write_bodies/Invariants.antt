@@ -1,0 +1,21 @@
+-- `writing::write_bodies` meets its contract. The loop's invariant: the words passed are written.
+use borrow.Author.Rules.{rules}
+use mathlib.Core.Path.{◌≡◌, refl, ◌∙◌, ap}
+use Prim.Native.Nat.{◌-◌, ◌*◌, ◌≤◌}
+use native.Mathlib.Omega.{arith}
+use lib.ListN.{length}
+use lib.Seq.{sets, length-sets}
+use Rattle.linker.specs.Given.{moved_word, body_unit, moved_procedure}
+use Rattle.rules.specs.Encoding.{word_bytes}
+use Rattle.rules.specs.WellFormed.{joined}
+use Rattle.writer.proofs.WordLaws.{word_more}
+use Rattle.linker.proofs.writing.write_bodies.Given as goal
+
+abbrev pub invariant-loop-k : goal.invariant-loop-k
+invariant-loop-k l =
+    (l.k ≤ l.count) × (length l.out ≡ length l.initial.out)
+    × (l.out ≡ sets l.initial.out (4 * l.first) (joined (λ i. word_bytes (moved_procedure l.both l.program i)) l.k))
+
+abbrev pub decreases-loop-k : goal.decreases-loop-k
+decreases-loop-k l =
+    l.count - l.k
