@@ -10,65 +10,62 @@ use borrow.Author.Rules.{rules}
 use Rattle.machine.proofs.team.step_asked.Statement.{statement}
 use Rattle.machine.proofs.team.step_asked.Tie as tie
 
-abbrev start : tie.After-header → tie.Start
+abbrev start : tie.After-header-head → tie.Start
 start c = c.before.before.before.before
 
 -- what the questions up to 23 say
-asked : (c : tie.After-header)
-    → Asked (start c).args.table.now c.header.result (start c).args.state.now (start c).args.roll.now
-    (processes_in (start c).args.roll.now) (start c).args.process
-asked c = asked_of _ _ _ _ (start c).requires c.header.ensures
+asked : (c : tie.After-header-head)
+    → Asked c.args.table.now c.header-head.result c.args.state.now c.args.roll.now
+    (processes_in c.args.roll.now) c.args.process
+asked c = asked_of _ _ _ _ c.requires c.header-head.ensures
 
-cast-count : tie.Need-overflow-cast-count
+cast-count : tie.Need-overflow_cast-count
 unfolding processes_in
 cast-count c =
-    let args = c.before.before.before.args in
-    let all = asked_of _ _ _ _ c.before.before.before.requires {header = header_of args.table.now} refl in
+    let args = c.args in
+    let all = asked_of _ _ _ _ c.requires {header = header_of args.table.now} refl in
     omega (arith, all.team.few)
 
-header-requires : tie.Need-header-requires
+header-requires : tie.Need-header-head-requires
 header-requires c κs =
-    let sized = exact _ (asked-formed _ _ _ _ c.before.before.before.requires) in
+    let sized = exact _ (asked-formed _ _ _ _ c.requires) in
     omega (arith, sized)
 
-place-lacked-requires : tie.Need-place-lacked-requires
+place-lacked-requires : tie.Need-place_lacked-requires
 unfolding processes_in
 place-lacked-requires c κs =
-    let all = asked c.before.before in
+    let all = asked c in
     (all.team, all.within, all.fits _ all.within)
 
-same_length : tie.Need-same-length
+same_length : tie.Need-shape_of-state-then-place_lacked
 same_length c = search rules
 
-same-length-2 : tie.Need-same-length-2
+same-length-2 : tie.Need-shape_of-roll-then-place_lacked
 same-length-2 c = search rules
 
-returns : tie.Need-returns
+returns : tie.Need-returns-then-place_lacked
 unfolding processes_in
 returns c =
-    let given = (start c.before.before.before.before).requires in
-    denied-place _ _ _ _ given (sym c.before.place-lacked.ensures ∙ c.if1.true)
+    let given = c.requires in
+    denied-place _ _ _ _ given (sym c.place_lacked.ensures ∙ c.if-place_lacked.true)
 
-take-turn-requires : tie.Need-take-turn-requires
+take-turn-requires : tie.Need-take_turn-requires
 unfolding processes_in
 take-turn-requires c κs =
-    let lacked = c.before.before.before in
-    ready_of (asked lacked.before.before.before) (sym lacked.place-lacked.ensures ∙ c.before.before.if1.false)
+    ready_of (asked c.before.before.before.before) (sym c.place_lacked.ensures ∙ c.if-place_lacked.false)
 
-same-length-3 : tie.Need-same-length-3
+same-length-3 : tie.Need-shape_of-state
 same-length-3 c = search rules
 
-same-length-4 : tie.Need-same-length-4
+same-length-4 : tie.Need-shape_of-roll
 same-length-4 c = search rules
 
-returns-2 : tie.Need-returns-2
+returns-2 : tie.Need-returns
 unfolding processes_in
 returns-2 c =
-    let turned = c.before.before.before.before in
-    let lacked = turned.before.before.before.before in
-    let given = (start lacked.before.before.before).requires in
-    rw (taken_step _ _ _ _ given (sym lacked.place-lacked.ensures ∙ turned.before.before.before.if1.false))
-    turned.take-turn.ensures
+    let given = c.requires in
+    rw (taken_step _ _ _ _ given (sym c.place_lacked.ensures ∙ c.if-place_lacked.false))
+    c.take_turn.ensures
 
 pub step_asked_spec : {M : Type 1} → statement M
 step_asked_spec =

@@ -13,82 +13,76 @@ use borrow.Author.Rules.{rules}
 use Rattle.machine.proofs.turn.run.Statement.{statement}
 use Rattle.machine.proofs.turn.run.Tie as tie
 
-abbrev start : tie.After-node-at → tie.Start
-start c = c.before.before.before.before.before.before.before
+abbrev start : tie.After-node_at-node → tie.Start
+start c = c.before.before.before.before.before.before
 
 -- the node read is the one on top of the process's stack
-on_top : (c : tie.After-node-at)
-    → c.Node-at.result
-    ≡ node_at (decode (start c).args.table.now) (top (process_at (start c).args.state.now (start c).args.p))
+on_top : (c : tie.After-node_at-node)
+    → c.node_at-node.result
+    ≡ node_at (decode c.args.table.now) (top (process_at c.args.state.now c.args.p))
 on_top c =
-    c.Node-at.ensures
-    ∙ ap (node_at (decode (start c).args.table.now)) (c.before.top.ensures ∙ ap top c.before.before.process_at.ensures)
+    c.node_at-node.ensures
+    ∙ ap (node_at (decode c.args.table.now)) (c.top-n.ensures ∙ ap top c.process_at.ensures)
 
-process-at-requires : tie.Need-process-at-requires
+process-at-requires : tie.Need-process_at-requires
 process-at-requires c κs = search rules
 
-top-requires : tie.Need-top-requires
+top-requires : tie.Need-top-n-requires
 top-requires c κs =
-    let given = c.before.before.before.before.before.requires in
+    let given = c.requires in
     rw c.process_at.ensures (ready-stacked given.0 given.1)
 
-cast-node-at : tie.Need-overflow-cast-node-at
+cast-node-at : tie.Need-overflow_cast-n
 cast-node-at c = search rules
 
-node-at-requires : tie.Need-node-at-requires
+node-at-requires : tie.Need-node_at-node-requires
 node-at-requires c κs =
-    let given = c.before.before.before.before.before.before.requires in
+    let given = c.requires in
     let read = given.0.team.read in
-    let at = c.top.ensures ∙ ap top c.before.process_at.ensures in
+    let at = c.top-n.ensures ∙ ap top c.process_at.ensures in
     rw at (readable (read-built read) (statement-below _ (read-formed read) _ (ready-statement given.0 given.1)))
 
-is-collective-requires : tie.Need-is-collective-requires
+is-collective-requires : tie.Need-is_collective-requires
 is-collective-requires c κs = search rules
 
 -- what the test says of the node
-alone : (c : tie.Then1) → is_collective c.before.before.Node-at.result.kind ≡ false
-alone c = sym c.before.is-collective.ensures ∙ not-true _ c.if1.true
+alone : (c : tie.Then-not-is_collective) → is_collective c.node_at-node.result.kind ≡ false
+alone c = sym c.is_collective.ensures ∙ not-true _ c.if-not-is_collective.true-raw
 
-meets : (c : tie.Else1) → is_collective c.before.before.Node-at.result.kind ≡ true
-meets c = sym c.before.is-collective.ensures ∙ not-false _ c.if1.false
+meets : (c : tie.Else-not-is_collective) → is_collective c.node_at-node.result.kind ≡ true
+meets c = sym c.is_collective.ensures ∙ not-false _ c.if-not-is_collective.false-raw
 
-move-on-requires : tie.Need-move-on-requires
+move-on-requires : tie.Need-move_on-requires
 move-on-requires c κs =
-    let read = c.before.before.before.before in
-    let given = (start read).requires in
-    (given.0.team, given.0.within, given.1, ready-turn given.0 given.1 (on_top read) (alone c.before.before))
+    let given = c.requires in
+    (given.0.team, given.0.within, given.1, ready-turn given.0 given.1 (on_top c.before.before.before.before) (alone c.before.before))
 
-same_length : tie.Need-same-length
+same_length : tie.Need-shape_of-state-then-not-is_collective
 same_length c = search rules
 
-same-length-2 : tie.Need-same-length-2
+same-length-2 : tie.Need-shape_of-roll-then-not-is_collective
 same-length-2 c = search rules
 
-returns : tie.Need-returns
+returns : tie.Need-returns-then-not-is_collective
 returns c =
-    let chosen = c.before.before.before.before.before.before.before in
-    let read = chosen.before.before in
-    rw (run_alone _ _ _ _ _ read.Node-at.result (on_top read) (alone chosen))
-    c.before.before.before.before.move-on.ensures
+    rw (run_alone _ _ _ _ _ c.node_at-node.result (on_top c.before.before.before.before.before.before.before.before.before) (alone c.before.before.before.before.before.before.before))
+    c.move_on.ensures
 
 meet-requires : tie.Need-meet-requires
 meet-requires c κs =
-    let read = c.before.before.before.before in
-    let given = (start read).requires in
-    (given.0, given.1, ready-topped given.0 given.1 (on_top read), meets c.before.before)
+    let given = c.requires in
+    (given.0, given.1, ready-topped given.0 given.1 (on_top c.before.before.before.before), meets c.before.before)
 
-same-length-3 : tie.Need-same-length-3
+same-length-3 : tie.Need-shape_of-state
 same-length-3 c = search rules
 
-same-length-4 : tie.Need-same-length-4
+same-length-4 : tie.Need-shape_of-roll
 same-length-4 c = search rules
 
-returns-2 : tie.Need-returns-2
+returns-2 : tie.Need-returns
 returns-2 c =
-    let chosen = c.before.before.before.before.before.before.before in
-    let read = chosen.before.before in
-    rw (run-meets _ _ _ _ _ read.Node-at.result (on_top read) (meets chosen))
-    c.before.before.before.before.meet.ensures
+    rw (run-meets _ _ _ _ _ c.node_at-node.result (on_top c.before.before.before.before.before.before.before.before.before) (meets c.before.before.before.before.before.before.before))
+    c.meet.ensures
 
 pub run_spec : {M : Type 1} → statement M
 run_spec =

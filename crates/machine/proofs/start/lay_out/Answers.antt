@@ -1,0 +1,34 @@
+-- `machine::start::lay_out` meets its contract. The words passed are laid out.
+use Rattle.machine.specs.Layout.{laid_word}
+use Rattle.rules.specs.Process.{process_words}
+use lib.Seq.{get_or-set_same, get_or-set_other}
+use lib.ListN.{length, get_or, length-set}
+use native.Mathlib.Omega.{arith}
+use native.Mathlib.Decide.{dec_lt}
+use Prim.Native.Nat.{ℕ, ◌-◌, ◌<◌, ◌≤◌}
+use mathlib.Core.Path.{◌≡◌, sym, ◌∙◌}
+use Rattle.machine.proofs.start.lay_out.Goals as goal
+
+pub loop-i-init : goal.loop-i-init
+loop-i-init c = (omega arith, c.requires.0, λ k l. absurd (omega arith))
+
+pub loop-i-preserved : goal.loop-i-preserved
+loop-i-preserved c =
+    let loop = c.loop-i in
+    let words = loop.words in
+    let i = loop.i in (
+      omega arith,
+      length-set words i c.laid_word.result ∙ loop.invariant.1,
+      λ k l. elim (dec_lt k i) [
+        | yes b ↦ get_or-set_other words i k c.laid_word.result 0 (λ e. omega arith) ∙ loop.invariant.2 k b
+        | no b ↦
+            let e : k ≡ i = omega arith in
+            rw e (get_or-set_same words i c.laid_word.result 0 (omega arith) ∙ c.laid_word.ensures)
+      ],
+    )
+
+pub shape_of-words : goal.shape_of-words
+shape_of-words c = c.loop-i.invariant.1 ∙ sym c.requires.0
+
+pub returns : goal.returns
+returns c = λ i l. c.loop-i.invariant.2 i (omega arith)

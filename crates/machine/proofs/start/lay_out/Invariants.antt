@@ -1,0 +1,18 @@
+-- `machine::start::lay_out` meets its contract. The words passed are laid out.
+use Rattle.machine.specs.Layout.{laid_word}
+use Rattle.rules.specs.Process.{process_words}
+use lib.Seq.{get_or-set_same, get_or-set_other}
+use lib.ListN.{length, get_or, length-set}
+use native.Mathlib.Omega.{arith}
+use native.Mathlib.Decide.{dec_lt}
+use Prim.Native.Nat.{ℕ, ◌-◌, ◌<◌, ◌≤◌}
+use mathlib.Core.Path.{◌≡◌, sym, ◌∙◌}
+use Rattle.machine.proofs.start.lay_out.Given as goal
+
+abbrev pub invariant-loop-i : goal.invariant-loop-i
+invariant-loop-i l =
+    (l.i ≤ process_words) × (length l.words ≡ process_words) × ((k : ℕ) → k < l.i → get_or l.words k 0 ≡ laid_word l.variables l.entry l.given k)
+
+abbrev pub decreases-loop-i : goal.decreases-loop-i
+decreases-loop-i l =
+    process_words - l.i

@@ -1,0 +1,25 @@
+-- `machine::team::latches` meets its contract.
+use Rattle.rules.specs.Process.{latch_places, latches_at, process_words}
+use Rattle.rules.specs.Start.{latches_of}
+use borrow.Author.Tests.{eq-eqb, ne_eqb, lt-ltb, le-ltb}
+use native.Mathlib.Omega.{arith}
+use Prim.Native.Nat.{◌+◌, ◌-◌, ◌*◌}
+use mathlib.Core.Path.{◌≡◌}
+use borrow.Author.Rules.{rules}
+use Rattle.machine.proofs.team.latches.Goals as goal
+
+pub returns-then-state-ne0 : goal.returns-then-state-ne0
+unfolding latches_of
+returns-then-state-ne0 c = rw (ne_eqb _ _ c.if-state-ne0.true)
+
+pub returns-then-process-state : goal.returns-then-process-state
+unfolding latches_of
+returns-then-process-state c = rw (eq-eqb _ _ c.if-state-ne0.false, le-ltb _ _ c.if-process-state.true)
+
+pub returns : goal.returns
+unfolding latches_of
+returns c =
+    let args = c.args in
+    let from = process_words * args.process + latches_at in
+    let size : from + latch_places - from ≡ latch_places = omega arith in
+    rw (size, eq-eqb _ _ c.if-state-ne0.false, lt-ltb _ _ c.if-process-state.false)
