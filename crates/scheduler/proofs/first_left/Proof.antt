@@ -36,92 +36,89 @@ module _ {program : Program} {state roll : List ℕ} {count p : ℕ} (on : Moved
       sym (first-at (process_fits program state roll) count p l
       (λ q m. on.others q (omega arith) (λ same. omega arith)) (on.own ∙ e))
 
-abbrev start : tie.After-enum-told → tie.Start
-start c = c.before.before.before.before.before
+abbrev start : tie.In-Moved → tie.Start
+start c = c.before.before.before.before
 
-moved : (c : tie.After-enum-told)
-    → MovedOn (decode (start c).args.table.now) (start c).args.state.now (start c).args.roll.now (start c).args.count
-    (start c).args.p
-moved c = told (start c).requires c.enum_told.given.1
+moved : (c : tie.In-Moved)
+    → MovedOn (decode c.args.table.now) c.args.state.now c.args.roll.now c.args.count
+    c.args.p
+moved c = told c.requires c.in-Moved.is
 
-enum_told : tie.Need-enum-told
+enum_told : tie.Need-enum_told-1
 enum_told c = search rules
 
-process-at-requires : tie.Need-process-at-requires
+process-at-requires : tie.Need-process_at-words-requires
 process-at-requires c κs = search rules
 
 -- what both tests of the leave are given
-on_top : (c : tie.After-process-at)
-    → Passing well_formed (start c.before).args.table.now (start c.before).args.header
-    × Stacked c.process_at.result.now
-    × (is_statement (decode (start c.before).args.table.now) (top c.process_at.result.now) ≡ true)
+on_top : (c : tie.After-process_at-words)
+    → Passing well_formed c.args.table.now c.args.header
+    × Stacked c.process_at-words.result.now
+    × (is_statement (decode c.args.table.now) (top c.process_at-words.result.now) ≡ true)
 on_top c =
     let on = moved c.before in
-    ((start c.before).requires.read, rw c.process_at.ensures on.stacked, rw c.process_at.ensures on.statement)
+    (c.requires.read, rw c.process_at-words.ensures on.stacked, rw c.process_at-words.ensures on.statement)
 
-leave-on-top-requires : tie.Need-leave-on-top-requires
+leave-on-top-requires : tie.Need-leave_on_top-requires
 leave-on-top-requires c κs = on_top c
 
-returns : tie.Need-returns
+returns : tie.Need-returns-then-not-leave_on_top
 unfolding leave_fits
 returns c =
-    let found = c.before.before in
-    let none = sym c.before.leave_on_top.ensures ∙ not-true _ c.if1.true in
-    fit-again (moved found.before) (rw (← found.process_at.ensures, none))
+    let none = sym c.leave_on_top.ensures ∙ not-true _ c.if-not-leave_on_top.true-raw in
+    fit-again (moved c.before.before.before) (rw (← c.process_at-words.ensures, none))
 
-leave-fits-requires : tie.Need-leave-fits-requires
+leave-fits-requires : tie.Need-leave_fits-requires
 leave-fits-requires c κs =
     let given = on_top c.before.before in
-    (given.0, given.1, given.2, sym c.before.leave_on_top.ensures ∙ not-false _ c.if1.false)
+    (given.0, given.1, given.2, sym c.leave_on_top.ensures ∙ not-false _ c.if-not-leave_on_top.false-raw)
 
-returns-2 : tie.Need-returns-2
+returns-2 : tie.Need-returns-then-leave_fits
 returns-2 c =
-    let found = c.before.before.before.before in
-    fit-again (moved found.before)
-    (ap (leave_fits _) (sym found.process_at.ensures) ∙ sym c.before.leave_fits.ensures ∙ c.if2.true)
+    fit-again (moved c.before.before.before.before.before)
+    (ap (leave_fits _) (sym c.process_at-words.ensures) ∙ sym c.leave_fits.ensures ∙ c.if-leave_fits.true)
 
-enum-told-2 : tie.Need-enum-told-2
+enum-told-2 : tie.Need-enum_told-in-Completed
 enum-told-2 c = search rules
 
-first-unfit-requires : tie.Need-first-unfit-requires
+first-unfit-requires : tie.Need-first_unfit-requires
 first-unfit-requires c κs = search rules
 
-enum-told-3 : tie.Need-enum-told-3
+enum-told-3 : tie.Need-enum_told-in-Finished
 enum-told-3 c = search rules
 
-enum-told-4 : tie.Need-enum-told-4
+enum-told-4 : tie.Need-enum_told-in-Arrived
 enum-told-4 c = search rules
 
-enum-told-5 : tie.Need-enum-told-5
+enum-told-5 : tie.Need-enum_told-in-Waiting
 enum-told-5 c = search rules
 
-enum-told-6 : tie.Need-enum-told-6
+enum-told-6 : tie.Need-enum_told-in-Ended
 enum-told-6 c = search rules
 
-returns-3 : tie.Need-returns-3
+returns-3 : tie.Need-returns-else-leave_fits
 returns-3 c =
-    let found = c.before.before.before.before in
-    unfit_now (moved found.before) (start found.before).requires.within
-    (ap (leave_fits _) (sym found.process_at.ensures) ∙ sym c.before.leave_fits.ensures ∙ c.if2.false)
+    unfit_now (moved c.before.before.before.before.before) c.requires.within
+    (ap (leave_fits _) (sym c.process_at-words.ensures) ∙ sym c.leave_fits.ensures ∙ c.if-leave_fits.false)
 
-returns-4 : tie.Need-returns-4
+returns-4 : tie.Need-returns-in-Completed
 returns-4 c = search rules
 
-returns-5 : tie.Need-returns-5
+returns-5 : tie.Need-returns-in-Finished
 returns-5 c =
-    sym (first-none _ _ (told c.before.before.before.before.before.requires c.enum-told3.given.1))
+    sym (first-none _ _ (told c.requires c.in-Finished.is))
 
-returns-6 : tie.Need-returns-6
+returns-6 : tie.Need-returns-in-Arrived
 returns-6 c =
-    sym (first-none _ _ (told c.before.before.before.before.before.requires c.enum-told4.given.1))
+    sym (first-none _ _ (told c.requires c.in-Arrived.is))
 
-returns-7 : tie.Need-returns-7
+returns-7 : tie.Need-returns-in-Waiting
 returns-7 c =
-    sym (first-none _ _ (told c.before.before.before.before.before.requires c.enum-told5.given.1))
+    sym (first-none _ _ (told c.requires c.in-Waiting.is))
 
-returns-8 : tie.Need-returns-8
+returns-8 : tie.Need-returns-in-Ended
 returns-8 c =
-    sym (first-none _ _ (told c.before.before.before.before.before.requires c.enum-told6.given.1))
+    sym (first-none _ _ (told c.requires c.in-Ended.is))
 
 pub first_left_spec : {M : Type 1} → statement M
 first_left_spec =

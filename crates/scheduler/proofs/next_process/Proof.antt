@@ -18,78 +18,76 @@ record Passing (roll : List ℕ) (count last p passed : ℕ) : Type 0 where
   at : p ≡ (last + passed) % count
   idle : Passed (passes roll count last) passed
 
-abbrev invariant_loop : tie.invariant_loop
+abbrev invariant_loop : tie.invariant-loop-passed
 invariant_loop roll count last p₀ passed₀ p passed = Passing roll count last p passed
 
-abbrev decreases_loop : tie.decreases_loop
+abbrev decreases_loop : tie.decreases-loop-passed
 decreases_loop roll count last p₀ passed₀ p passed = count - passed
 
-loop-holds : tie.Need-loop-init invariant_loop decreases_loop
+loop-holds : tie.Need-loop-passed-init invariant_loop decreases_loop
 loop-holds c =
-    let last = c.before.args.last in
+    let last = c.args.last in
     let e : last + 0 ≡ last = omega arith in
-    record { within = omega arith; at = rw e (sym (mod-eq_of_lt c.before.requires.1)); idle = passed_none _ }
+    record { within = omega arith; at = rw e (sym (mod-eq_of_lt c.requires.1)); idle = passed_none _ }
 
-after-requires : tie.Need-after-requires invariant_loop decreases_loop
-after-requires c κs = rw c.before.loop.invariant.at (mod-lt _ (omega arith))
+after-requires : tie.Need-after-p-requires invariant_loop decreases_loop
+after-requires c κs = rw c.loop-passed.invariant.at (mod-lt _ (omega arith))
 
 -- the process looked at is the next place
-here : (c : tie.After-after invariant_loop decreases_loop)
-    → c.after.result ≡ place_after c.before.before.before.before.args.count c.before.before.before.before.args.last
-    c.before.before.loop.passed
+here : (c : tie.After-after-p invariant_loop decreases_loop)
+    → c.after-p.result ≡ place_after c.args.count c.args.last
+    c.loop-passed.passed
 here c =
-    c.after.ensures
-    ∙ one_on c.before.before.before.before.args.count c.before.before.before.before.args.last
-    c.before.before.loop.p c.before.before.loop.passed c.before.before.loop.invariant.at
+    c.after-p.ensures
+    ∙ one_on c.args.count c.args.last
+    c.loop-passed.p c.loop-passed.passed c.loop-passed.invariant.at
 
-below : (c : tie.After-after invariant_loop decreases_loop) → c.after.result < c.before.before.before.before.args.count
-below c = rw (here c) (mod-lt _ (omega (arith, c.before.loop-test.true)))
+below : (c : tie.After-after-p invariant_loop decreases_loop) → c.after-p.result < c.args.count
+below c = rw (here c) (mod-lt _ (omega (arith, c.loop-passed-test.true)))
 
-cast-status-at : tie.Need-overflow-cast-status-at invariant_loop decreases_loop
+cast-status-at : tie.Need-overflow_cast-p invariant_loop decreases_loop
 cast-status-at c = omega (arith, below c)
 
-status-at-requires : tie.Need-status-at-requires invariant_loop decreases_loop
-status-at-requires c κs = omega (arith, below c, c.before.before.before.before.requires.0)
+status-at-requires : tie.Need-status_at-requires invariant_loop decreases_loop
+status-at-requires c κs = omega (arith, below c, c.requires.0)
 
-returns : tie.Need-returns invariant_loop decreases_loop
+returns : tie.Need-returns-then-status_at-eq-RUNNING invariant_loop decreases_loop
 returns c =
-    let looked = c.before.before in
-    let loop = looked.before.before.loop in
-    let args = looked.before.before.before.before.args in
-    let given = looked.before.before.before.before.requires in
+    let loop = c.loop-passed in
+    let args = c.args in
+    let given = c.requires in
     let runs : status_at args.roll.now (place_after args.count args.last loop.passed) ≡ running =
-    rw (here looked) at (sym c.before.status-at.ensures ∙ c.if1.true) in
-    here looked
-    ∙ found-next args.roll.now args.count args.last given.0 loop.passed looked.before.loop-test.true
+    rw (here c.before.before) at (sym c.status_at.ensures ∙ c.if-status_at-eq-RUNNING.true) in
+    here c.before.before
+    ∙ found-next args.roll.now args.count args.last given.0 loop.passed c.loop-passed-test.true
     loop.invariant.idle (ap not (eq-eqb _ _ runs))
 
-add-passed : tie.Need-overflow-add-passed invariant_loop decreases_loop
-add-passed c = omega (arith, c.before.before.before.loop-test.true)
+add-passed : tie.Need-overflow_add-passed invariant_loop decreases_loop
+add-passed c = omega (arith, c.loop-passed-test.true)
 
-loop-less : tie.Need-loop-smaller invariant_loop decreases_loop
+loop-less : tie.Need-loop-passed-smaller invariant_loop decreases_loop
 loop-less c = omega arith
 
-loop-again : tie.Need-loop-preserved invariant_loop decreases_loop
+loop-again : tie.Need-loop-passed-preserved invariant_loop decreases_loop
 loop-again c =
-    let looked = c.before.before in
-    let loop = looked.before.before.loop in
-    let args = looked.before.before.before.before.args in
+    let loop = c.loop-passed in
+    let args = c.args in
     let idles : status_at args.roll.now (place_after args.count args.last loop.passed) ≡ running → ⊥ =
-    λ e. c.if1.false (c.before.status-at.ensures ∙ rw (here looked) e) in
+    λ e. c.if-status_at-eq-RUNNING.false (c.status_at.ensures ∙ rw (here c.before.before) e) in
     let on : args.last + 1 + loop.passed ≡ args.last + (loop.passed + 1) = omega arith in
     record {
-      within = omega (arith, looked.before.loop-test.true);
-      at = rw on at (here looked);
+      within = omega (arith, c.loop-passed-test.true);
+      at = rw on at (here c.before.before);
       idle = passed-more (passes args.roll.now args.count args.last) loop.passed loop.invariant.idle
           (ap not (ne_eqb _ _ idles));
     }
 
-returns-2 : tie.Need-returns-2 invariant_loop decreases_loop
+returns-2 : tie.Need-returns invariant_loop decreases_loop
 returns-2 c =
-    let args = c.before.before.before.args in
-    let end : c.before.loop.passed ≡ args.count = omega (arith, c.before.loop.invariant.within) in
-    found_none args.roll.now args.count args.last c.before.before.before.requires.0
-    (rw end at c.before.loop.invariant.idle)
+    let args = c.args in
+    let end : c.loop-passed.passed ≡ args.count = omega (arith, c.loop-passed.invariant.within) in
+    found_none args.roll.now args.count args.last c.requires.0
+    (rw end at c.loop-passed.invariant.idle)
 
 pub next_process_spec : {M : Type 1} → statement M
 next_process_spec =
