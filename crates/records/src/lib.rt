@@ -49,7 +49,8 @@ fn load(roll: &[Arrival]) -> [u32; LENT_WORDS]
     let count = lesser(roll.len(), MOST_LENT);
     let mut p = 0;
     while p < count {
-        words = placed(words, p, roll[p]);
+        let after = placed(words, p, roll[p]);
+        words = after;
         p += 1;
     }
     words
