@@ -1,0 +1,13 @@
+-- `ffi::fc_serve` meets its contract, from those of its callees.
+use mathlib.Core.Path.{◌∙◌}
+use borrow.Author.Rules.{rules}
+use Rattle.ffi.proofs.fc_serve.Goals as goal
+
+pub returns : goal.returns
+returns c =
+    let end = c.serve.ensures in
+    record {
+      answered = c.serve_numbers.ensures ∙ rw (end.made, end.last, end.answered);
+      left = end.left;
+      written = end.written;
+    }

@@ -1,0 +1,13 @@
+-- `ffi::fc_step` meets its contract, from those of its callees.
+use mathlib.Core.Path.{◌∙◌, ap}
+use Rattle.ffi.specs.Numbers.{step_numbers}
+use borrow.Author.Rules.{rules}
+use Rattle.ffi.proofs.fc_step.Goals as goal
+
+pub returns : goal.returns
+returns c =
+    record {
+      answered = c.step_numbers.ensures ∙ ap step_numbers c.step.ensures.answered;
+      left = c.step.ensures.left;
+      written = c.step.ensures.written;
+    }
