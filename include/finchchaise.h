@@ -2,8 +2,8 @@
  * Finchchaise: a proved checker of site tables, a machine that runs them and a linker that joins
  * one to another.
  *
- * Link with target/staticlib/libffi.a, which `rt staticlib ffi` writes (x86-64). The library has no
- * memory of its own: it allocates nothing and keeps nothing between calls, so calls on different
+ * Link with crates/ffi/out/libffi.a, which `rt lib` in crates/ffi writes (x86-64). The library has
+ * no memory of its own: it allocates nothing and keeps nothing between calls, so calls on different
  * buffers may run side by side. No input is an error of the caller: whatever the bytes, words and
  * numbers are, a call answers.
  *

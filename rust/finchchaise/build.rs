@@ -1,10 +1,10 @@
-//! Links the proved library. It is looked for where `rt staticlib ffi` writes it, or in the folder
-//! that the environment variable FINCHCHAISE_LIB names.
+//! Links the proved library. It is looked for where `rt lib` in `crates/ffi` writes it, or in the
+//! folder that the environment variable FINCHCHAISE_LIB names.
 
 use std::path::{Path, PathBuf};
 use std::{env, fs};
 
-const WRITTEN_TO: &str = "../../target/staticlib";
+const WRITTEN_TO: &str = "../../crates/ffi/out";
 const ARCHIVE: &str = "libffi.a";
 
 fn main() {
@@ -15,9 +15,9 @@ fn main() {
         link(&archive);
     } else {
         println!(
-            "cargo::error=the proved library is missing: run `rt staticlib ffi` at the top of the \
-             repository, which writes target/staticlib/{ARCHIVE}, or set FINCHCHAISE_LIB to the \
-             folder that holds it (looked for {})",
+            "cargo::error=the proved library is missing: run `rt lib` in crates/ffi, which writes \
+             crates/ffi/out/{ARCHIVE}, or set FINCHCHAISE_LIB to the folder that holds it \
+             (looked for {})",
             archive.display()
         );
     }

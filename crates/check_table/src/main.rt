@@ -2,19 +2,20 @@
 #![tactic(auto)]
 
 use checker::check;
-use libc::STDIN_FILENO;
+use input::read_full;
 use rules::Verdict;
 use rules::layout::{MOST_TABLE_BYTES, SCRATCH_WORDS};
+use std::io;
 
 // A word more than the longest table, so that longer input is refused by its length.
 const INPUT_BYTES: usize = MOST_TABLE_BYTES + 4;
 
-fn main() {
+fn main(rt: HostRuntime) -> io::Result<()> {
     let mut input = [0u8; INPUT_BYTES];
     let mut scratch = [0u32; SCRATCH_WORDS];
-    let n = io::read_full(STDIN_FILENO, &mut input);
+    let n = read_full(&mut rt.stdin(), &mut input)?;
     match check(&input[..n], &mut scratch) {
-        Verdict::Accepted => report::accepted(),
-        Verdict::Refused(refusal) => report::refusal(refusal),
+        Verdict::Accepted => report::accepted(&rt),
+        Verdict::Refused(refusal) => report::refusal(&rt, refusal),
     }
 }

@@ -3,6 +3,8 @@
 // past the end of them all is 0: question 25 is asked once, and no part asks again.
 #![tactic(auto)]
 
+mod source;
+
 ghost use Rattle.std.specs.Prelude.{◌∷◌, [], ◌++◌, ◌≡◌, ◌*◌, ◌/◌, ◌≤◌, min, length, get_or, take, drop};
 ghost use Rattle.rules.specs.declared.Verdict.TheVariants.{Accepted};
 ghost use Rattle.rules.specs.Input.{table_bytes, end_behind, behind, word_behind, words_of, words_taken, words_exactly};
@@ -12,6 +14,7 @@ ghost use Rattle.rules.specs.Table.{decode, word_at};
 
 use rules::Verdict;
 use rules::layout::{DOOR_PLACES, lesser};
+pub use source::read_full;
 use table::shape::refused;
 use table::words::{header, word};
 

@@ -5,38 +5,43 @@
 ghost use Rattle.std.specs.Prelude.{◌≡◌, length};
 ghost use Rattle.rules.specs.WellFormed.{most_table_bytes};
 
-use input::{INPUT_BYTES, LIBRARY_BEHIND, asked, behind, table_bytes};
-use libc::STDIN_FILENO;
+use input::{INPUT_BYTES, LIBRARY_BEHIND, asked, behind, read_full, table_bytes};
 use linker::{Link, joined_length};
 use rules::Verdict;
 use rules::layout::MOST_TABLE_BYTES;
+use std::io;
 
 // The length told is the one that is taken, and 0 is taken by no pair: `LengthTold` in linker/specs/Joins.antt.
-fn link_lent(library: &[u8], program: &[u8], out: &mut [u8])
+fn link_lent(rt: &impl Print, library: &[u8], program: &[u8], out: &mut [u8]) -> io::Result<()>
     requires { length out.old ≡ most_table_bytes }
 {
     let size = joined_length(library, program);
     let answer = linker::link_tables(library, program, &mut out[..size]);
     match answer {
-        Link::Joined => report::table(&out[..size]),
-        Link::OfLibrary(refusal) => report::refusal_of_library(refusal),
-        Link::OfProgram(refusal) => report::refusal_of_program(refusal),
+        Link::Joined => report::table(rt, &out[..size]),
+        Link::OfLibrary(refusal) => report::refusal_of_library(rt, refusal),
+        Link::OfProgram(refusal) => report::refusal_of_program(rt, refusal),
     }
 }
 
-fn link(input: &[u8]) {
+fn link(rt: &impl Print, input: &[u8]) -> io::Result<()> {
     let verdict = asked(input, LIBRARY_BEHIND);
     match verdict {
         Verdict::Accepted => {
             let mut out = [0u8; MOST_TABLE_BYTES];
-            link_lent(table_bytes(input), behind(input, LIBRARY_BEHIND), &mut out);
+            link_lent(
+                rt,
+                table_bytes(input),
+                behind(input, LIBRARY_BEHIND),
+                &mut out,
+            )
         }
-        Verdict::Refused(refusal) => report::refusal(refusal),
+        Verdict::Refused(refusal) => report::refusal(rt, refusal),
     }
 }
 
-fn main() {
+fn main(rt: HostRuntime) -> io::Result<()> {
     let mut input = [0u8; INPUT_BYTES];
-    let n = io::read_full(STDIN_FILENO, &mut input);
-    link(&input[..n]);
+    let n = read_full(&mut rt.stdin(), &mut input)?;
+    link(&rt, &input[..n])
 }

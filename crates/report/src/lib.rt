@@ -1,60 +1,60 @@
-// What the programs print: the paper's words, on standard output.
+// What the programs print: the paper's words, on standard output. A write that fails is returned, and nothing is printed after it.
 #![tactic(auto)]
 
 ghost use Rattle.std.specs.Prelude.{◌≡◌, ◌≤◌, take};
 ghost use Rattle.rules.specs.Answers.{event_word, team_word};
 
-use libc::STDOUT_FILENO;
 use rules::{Answer, Event, Refusal, TeamStatus};
+use std::io;
 
 // A printed word: some bytes, and how many of them are the word's.
 #[derive(Clone, Copy)]
 struct Word([u8; 8], usize);
 
-fn text(bytes: &[u8]) {
-    io::write_all(STDOUT_FILENO, bytes);
+fn text(rt: &impl Print, bytes: &[u8]) -> io::Result<()> {
+    rt.write_all(bytes)
 }
 
-fn number(n: u32) {
-    io::print_decimal(STDOUT_FILENO, n as u64);
+fn number(rt: &impl Print, n: u32) -> io::Result<()> {
+    rt.print(n)
 }
 
-pub fn accepted() {
-    text(b"accepted\n");
+pub fn accepted(rt: &impl Print) -> io::Result<()> {
+    text(rt, b"accepted\n")
 }
 
 // "refused 15 3 (number, place)"
-fn refused(r: Refusal) {
-    text(b"refused ");
-    number(r.number);
-    text(b" ");
-    number(r.place);
+fn refused(rt: &impl Print, r: Refusal) -> io::Result<()> {
+    text(rt, b"refused ")?;
+    number(rt, r.number)?;
+    text(rt, b" ")?;
+    number(rt, r.place)
 }
 
-pub fn refusal(r: Refusal) {
-    refused(r);
-    text(b"\n");
+pub fn refusal(rt: &impl Print, r: Refusal) -> io::Result<()> {
+    refused(rt, r)?;
+    text(rt, b"\n")
 }
 
 // A refusal with the table that it is about.
-pub fn refusal_of_library(r: Refusal) {
-    refused(r);
-    text(b" library\n");
+pub fn refusal_of_library(rt: &impl Print, r: Refusal) -> io::Result<()> {
+    refused(rt, r)?;
+    text(rt, b" library\n")
 }
 
-pub fn refusal_of_program(r: Refusal) {
-    refused(r);
-    text(b" program\n");
+pub fn refusal_of_program(rt: &impl Print, r: Refusal) -> io::Result<()> {
+    refused(rt, r)?;
+    text(rt, b" program\n")
 }
 
 // A table as it is.
-pub fn table(bytes: &[u8]) {
-    text(bytes);
+pub fn table(rt: &impl Print, bytes: &[u8]) -> io::Result<()> {
+    text(rt, bytes)
 }
 
 // The line above the first turn.
-pub fn header() {
-    text(b"bank what node site\n");
+pub fn header(rt: &impl Print) -> io::Result<()> {
+    text(rt, b"bank what node site\n")
 }
 
 fn event_word(event: Event) -> Word
@@ -80,37 +80,37 @@ fn team_word(team: TeamStatus) -> Word
     }
 }
 
-fn print(bytes: &[u8; 8], size: usize)
+fn print(rt: &impl Print, bytes: &[u8; 8], size: usize) -> io::Result<()>
     requires { size ≤ 8 }
 {
     let whole = &bytes[..];
-    text(&whole[0..size]);
+    text(rt, &whole[0..size])
 }
 
 // "bank, what happened .., the node for arrived and met, else 0, and the site"
-pub fn turn(bank: u32, answer: Answer) {
+pub fn turn(rt: &impl Print, bank: u32, answer: Answer) -> io::Result<()> {
     let happened = answer.event;
     let status = answer.team;
     let what = event_word(happened);
     let site = team_word(status);
-    number(bank);
-    text(b" ");
-    print(&what.0, what.1);
-    text(b" ");
-    number(happened.node());
-    text(b" ");
-    print(&site.0, site.1);
-    text(b"\n");
+    number(rt, bank)?;
+    text(rt, b" ")?;
+    print(rt, &what.0, what.1)?;
+    text(rt, b" ")?;
+    number(rt, happened.node())?;
+    text(rt, b" ")?;
+    print(rt, &site.0, site.1)?;
+    text(rt, b"\n")
 }
 
 // How many turns were made, which bank was last, and the site, below a line that names them.
-pub fn served(made: u32, last: u32, team: TeamStatus) {
+pub fn served(rt: &impl Print, made: u32, last: u32, team: TeamStatus) -> io::Result<()> {
     let site = team_word(team);
-    text(b"made last site\n");
-    number(made);
-    text(b" ");
-    number(last);
-    text(b" ");
-    print(&site.0, site.1);
-    text(b"\n");
+    text(rt, b"made last site\n")?;
+    number(rt, made)?;
+    text(rt, b" ")?;
+    number(rt, last)?;
+    text(rt, b" ")?;
+    print(rt, &site.0, site.1)?;
+    text(rt, b"\n")
 }

@@ -8,22 +8,23 @@ ghost use Rattle.rules.specs.Input.{most_input_bytes, question25, run_behind};
 ghost use Rattle.rules.specs.Process.{process_words, most_processes};
 
 use input::{
-    INPUT_BYTES, INPUT_WORDS, RUN_BEHIND, asked, run_words, table_bytes, turns, word_behind,
+    INPUT_BYTES, INPUT_WORDS, RUN_BEHIND, asked, read_full, run_words, table_bytes, turns,
+    word_behind,
 };
-use libc::STDIN_FILENO;
 use rules::layout::{MOST_PROCESSES, PROCESS_WORDS, STATE_WORDS, lesser};
 use rules::{Arrival, Status, Stepped, Verdict};
+use std::io;
 
 // Answers whether the run goes on.
-fn report_step(bank: u32, stepped: Stepped) -> bool {
+fn report_step(rt: &impl Print, bank: u32, stepped: Stepped) -> io::Result<bool> {
     match stepped {
         Stepped::Taken(answer) => {
-            report::turn(bank, answer);
-            true
+            report::turn(rt, bank, answer)?;
+            Ok(true)
         }
         Stepped::Refused(refusal) => {
-            report::refusal(refusal);
-            false
+            report::refusal(rt, refusal)?;
+            Ok(false)
         }
     }
 }
@@ -33,13 +34,14 @@ fn bank_of(turn: u8) -> u32 {
 }
 
 fn take_turns(
+    rt: &impl Print,
     table: &[u8],
     state: &mut [u32],
     roll: [Arrival; MOST_PROCESSES],
     processes: usize,
     turns: &[u8],
-) {
-    report::header();
+) -> io::Result<()> {
+    report::header(rt)?;
     let mut records = roll;
     let count = turns.len();
     for i in 0..count {
@@ -47,14 +49,15 @@ fn take_turns(
         let after = records::step_on(table, state, records, processes, bank);
         records = after.roll;
         let stepped = after.answer;
-        if !report_step(bank, stepped) {
-            return;
+        if !report_step(rt, bank, stepped)? {
+            return Ok(());
         }
     }
+    Ok(())
 }
 
 // An input that passed question 25. The start asks the other questions: `RunStarts` in rules/specs/Input.antt.
-fn run_lent(input: &[u8], words: &mut [u32], state: &mut [u32])
+fn run_lent(rt: &impl Print, input: &[u8], words: &mut [u32], state: &mut [u32]) -> io::Result<()>
     requires { (question25 run_behind input.now ≡ Accepted) × (length words.old ≡ most_input_bytes / 4)
         × (length state.old ≡ process_words * most_processes) }
 {
@@ -79,32 +82,31 @@ fn run_lent(input: &[u8], words: &mut [u32], state: &mut [u32])
     );
     let answer = after.answer;
     let roll = after.roll;
+    let banks = turns(input);
     match answer {
-        Verdict::Accepted => {
-            take_turns(table, &mut state[..state_end], roll, count, turns(input))
-        }
-        Verdict::Refused(refusal) => report::refusal(refusal),
+        Verdict::Accepted => take_turns(rt, table, &mut state[..state_end], roll, count, banks),
+        Verdict::Refused(refusal) => report::refusal(rt, refusal),
     }
 }
 
-fn run_input(input: &[u8])
+fn run_input(rt: &impl Print, input: &[u8]) -> io::Result<()>
     requires { question25 run_behind input.now ≡ Accepted }
 {
     let mut words = [0u32; INPUT_WORDS];
     let mut state = [0u32; STATE_WORDS];
-    run_lent(input, &mut words, &mut state);
+    run_lent(rt, input, &mut words, &mut state)
 }
 
-fn run(input: &[u8]) {
+fn run(rt: &impl Print, input: &[u8]) -> io::Result<()> {
     let verdict = asked(input, RUN_BEHIND);
     match verdict {
-        Verdict::Accepted => run_input(input),
-        Verdict::Refused(refusal) => report::refusal(refusal),
+        Verdict::Accepted => run_input(rt, input),
+        Verdict::Refused(refusal) => report::refusal(rt, refusal),
     }
 }
 
-fn main() {
+fn main(rt: HostRuntime) -> io::Result<()> {
     let mut input = [0u8; INPUT_BYTES];
-    let n = io::read_full(STDIN_FILENO, &mut input);
-    run(&input[..n]);
+    let n = read_full(&mut rt.stdin(), &mut input)?;
+    run(&rt, &input[..n])
 }

@@ -9,17 +9,26 @@ ghost use Rattle.rules.specs.Input.{most_input_bytes, question25, serve_behind};
 ghost use Rattle.rules.specs.Process.{process_words, most_processes};
 
 use collectives::arrivals::team_status;
-use input::{INPUT_BYTES, INPUT_WORDS, SERVE_BEHIND, asked, serve_words, table_bytes, word_behind};
-use libc::STDIN_FILENO;
+use input::{
+    INPUT_BYTES, INPUT_WORDS, SERVE_BEHIND, asked, read_full, serve_words, table_bytes, word_behind,
+};
 use rules::Verdict;
 use rules::layout::{ARRIVAL_WORDS, MOST_PROCESSES, PROCESS_WORDS, STATE_WORDS, lesser};
+use std::io;
 
 // The roll of the largest team.
 const ROLL_WORDS: usize = ARRIVAL_WORDS * MOST_PROCESSES;
 
 // After a start a call is refused with 22 alone, and has made no turn then: `ServesTaken` in rules/specs/Scheduling.antt. So
 // a refusal is printed alone.
-fn serve_started(input: &[u8], table: &[u8], state: &mut [u32], roll: &mut [u32], count: usize)
+fn serve_started(
+    rt: &impl Print,
+    input: &[u8],
+    table: &[u8],
+    state: &mut [u32],
+    roll: &mut [u32],
+    count: usize,
+) -> io::Result<()>
     requires { length roll.old ≡ arrival_size * count }
 {
     let last = word_behind(input, 1);
@@ -28,14 +37,20 @@ fn serve_started(input: &[u8], table: &[u8], state: &mut [u32], roll: &mut [u32]
     let answer = service.answer;
     match answer {
         Verdict::Accepted => {
-            report::served(service.made, service.last, team_status(roll, count))
+            report::served(rt, service.made, service.last, team_status(roll, count))
         }
-        Verdict::Refused(refusal) => report::refusal(refusal),
+        Verdict::Refused(refusal) => report::refusal(rt, refusal),
     }
 }
 
 // An input that passed question 25. The start asks the other questions: `ServeStarts` in rules/specs/Input.antt.
-fn serve_lent(input: &[u8], words: &mut [u32], state: &mut [u32], roll: &mut [u32])
+fn serve_lent(
+    rt: &impl Print,
+    input: &[u8],
+    words: &mut [u32],
+    state: &mut [u32],
+    roll: &mut [u32],
+) -> io::Result<()>
     requires { (question25 serve_behind input.now ≡ Accepted) × (length words.old ≡ most_input_bytes / 4)
         × (length state.old ≡ process_words * most_processes) × (length roll.old ≡ arrival_size * most_processes) }
 {
@@ -54,35 +69,36 @@ fn serve_lent(input: &[u8], words: &mut [u32], state: &mut [u32], roll: &mut [u3
     );
     match answer {
         Verdict::Accepted => serve_started(
+            rt,
             input,
             table,
             &mut state[..state_end],
             &mut roll[..roll_end],
             count,
         ),
-        Verdict::Refused(refusal) => report::refusal(refusal),
+        Verdict::Refused(refusal) => report::refusal(rt, refusal),
     }
 }
 
-fn serve_input(input: &[u8])
+fn serve_input(rt: &impl Print, input: &[u8]) -> io::Result<()>
     requires { question25 serve_behind input.now ≡ Accepted }
 {
     let mut words = [0u32; INPUT_WORDS];
     let mut state = [0u32; STATE_WORDS];
     let mut roll = [0u32; ROLL_WORDS];
-    serve_lent(input, &mut words, &mut state, &mut roll);
+    serve_lent(rt, input, &mut words, &mut state, &mut roll)
 }
 
-fn serve(input: &[u8]) {
+fn serve(rt: &impl Print, input: &[u8]) -> io::Result<()> {
     let verdict = asked(input, SERVE_BEHIND);
     match verdict {
-        Verdict::Accepted => serve_input(input),
-        Verdict::Refused(refusal) => report::refusal(refusal),
+        Verdict::Accepted => serve_input(rt, input),
+        Verdict::Refused(refusal) => report::refusal(rt, refusal),
     }
 }
 
-fn main() {
+fn main(rt: HostRuntime) -> io::Result<()> {
     let mut input = [0u8; INPUT_BYTES];
-    let n = io::read_full(STDIN_FILENO, &mut input);
-    serve(&input[..n]);
+    let n = read_full(&mut rt.stdin(), &mut input)?;
+    serve(&rt, &input[..n])
 }
