@@ -20,7 +20,7 @@ use Rattle.rules.specs.Step.{Outcome, question22, completed}
 use Rattle.rules.proofs.FairLaws.{some}
 use Rattle.rules.proofs.OrderLaws.{order-free, no_more-turns}
 use Rattle.rules.proofs.ServedRun.{running-taken, next_low, serves-taken, served_in-run}
-use Rattle.rules.proofs.ServingLaws.{by-serving, served_as_single_turns, serves_on}
+use Rattle.rules.proofs.ServingLaws.{worked-counts, by-serving, served_as_single_turns, serves_on}
 use Rattle.rules.proofs.SoundRun.{SoundTeam, sound-turn, sound-run}
 use Rattle.rules.proofs.Stands.{only_22_of_team}
 use Rattle.rules.proofs.StatusLaws.{team-going, team-over}
@@ -75,7 +75,7 @@ worked-length : (table : List ℕ) (team : Team) (turns : List ℕ) → AllWorke
 unfolding worked_in_all answers
 worked-length table team [] all = refl
 worked-length table team (p ∷ turns) all =
-    omega (arith, all.0, worked-length table (after_turn table team p) turns all.1)
+    omega (arith, worked-counts _ all.0, worked-length table (after_turn table team p) turns all.1)
 
 worked_append : (table : List ℕ) (team : Team) (first second : List ℕ)
     → worked_in_all (answers table team (first ++ second))
@@ -182,7 +182,7 @@ made-over table count words state roll turns others taken ends enough =
     omega (
       arith,
       enough,
-      running-taken table count reached.state reached.roll p now l runs,
+      worked-counts _ (running-taken table count reached.state reached.roll p now l runs),
       worked_append table team others (p ∷ []),
       no_more-turns table count words state roll turns (others ++ (p ∷ [])) taken ends,
     ))

@@ -2,7 +2,7 @@
 use mathlib.Core.Bool.{Bool, true, false, cond, not}
 use mathlib.Core.List.{List, [], ◌∷◌}
 use mathlib.Core.Logic.{inl, inr}
-use mathlib.Core.Path.{◌≡◌, refl}
+use mathlib.Core.Path.{◌≡◌, refl, ap}
 use Prim.Native.Nat.{ℕ, zero, suc, ◌+◌, ◌≤◌, ◌<◌}
 use native.Mathlib.Nat.{mod-lt, zero-add}
 use native.Mathlib.Omega.{arith}
@@ -10,16 +10,20 @@ use lib.Dec.{eqb}
 use lib.ListN.{length}
 use borrow.Author.Tests.{ltb-true, eqb-true, not-false}
 use Rattle.rules.specs.declared.Answer.{Answer}
+use Rattle.rules.specs.declared.Event.{Event}
+use Rattle.rules.specs.declared.Event.TheVariants.{Moved, Finished, Arrived, Completed, Waiting, Ended}
 use Rattle.rules.specs.declared.Refusal.{Refusal}
 use Rattle.rules.specs.declared.Stepped.{Stepped}
 use Rattle.rules.specs.declared.Stepped.TheVariants.{Taken, Refused}
 use Rattle.rules.specs.declared.Verdict.{Verdict}
 use Rattle.rules.specs.declared.Verdict.TheVariants.{Accepted, Refused as Failed}
+use Rattle.rules.specs.Answers.{event_number}
 use Rattle.rules.specs.Arrivals.{running, status_at}
+use Rattle.rules.specs.Process.{process_at, top}
 use Rattle.rules.specs.Run.{Team, turn, after_turn, after_turns, answers}
 use Rattle.rules.specs.Scheduling.{place_after, passed_over, some_runs, next_process, Served, stopped_at, if_taken, serving}
 use Rattle.rules.specs.Scheduling.{served_by, served, chosen, chosen_by, chosen_in, last_of}
-use Rattle.rules.specs.Scheduling.{Worked, AllWorked, Stopped, AsSingleTurns, ServedAsSingleTurns, ServesOn}
+use Rattle.rules.specs.Scheduling.{event_turns, answer_turns, Worked, AllWorked, Stopped, AsSingleTurns, ServedAsSingleTurns, ServesOn}
 use Rattle.rules.specs.Step.{processes_in, completed, step_running, step_taken, step_verdict}
 use Rattle.rules.specs.Step.{team_verdict, stepped_by, stepped}
 use Rattle.rules.proofs.ChoiceLaws.{first-fails}
@@ -44,16 +48,19 @@ module _ (roll : List ℕ) (last : ℕ) (some : some_runs roll last ≡ true) wh
   next-below = mod-lt _ (omega (arith, next-found))
 
 -- a turn of a running process that is taken is not idle
+busy : (event : Event) → event_number event < 4 → (event ≡ Waiting → ⊥) × (event ≡ Ended → ⊥)
+busy event l = ((λ e. omega (arith, ap event_number e)), (λ e. omega (arith, ap event_number e)))
+
 module _ (table state roll : List ℕ) (count p : ℕ) where
   running-worked : Worked (step_running (decode table) state roll count p).answer
   unfolding completed
   running-worked =
       by-step table count state roll p (Unit {0}) (λ outcome. Worked outcome.answer)
       (record {
-        moves = λ h n. refl;
-        finishes = λ h d. refl;
-        arrives = λ h k e apart. refl;
-        completes = λ h k e meets. refl;
+        moves = λ h n. busy Moved (omega arith);
+        finishes = λ h d. busy Finished (omega arith);
+        arrives = λ h k e apart. busy (Arrived (top (process_at state p))) (omega arith);
+        completes = λ h k e meets. busy (Completed (top (process_at state p))) (omega arith);
       })
       tt
 
@@ -62,7 +69,20 @@ module _ (table state roll : List ℕ) (count p : ℕ) where
   taken-worked e = rw e running-worked
 
 pub not-refused : (s : Stepped) → Worked s → (r : Refusal) → s ≡ Refused r → ⊥
-not-refused s w r e = let z : ◌≡◌ {A = ℕ} 0 1 = rw e at w in omega arith
+not-refused s w r e = rw e at w
+
+-- and it counts as one turn
+event-worked : (event : Event) → (event ≡ Waiting → ⊥) → (event ≡ Ended → ⊥) → event_turns event ≡ 1
+event-worked Moved w e = refl
+event-worked Finished w e = refl
+event-worked (Arrived node) w e = refl
+event-worked (Completed node) w e = refl
+event-worked Waiting w e = absurd (w refl)
+event-worked Ended w e = absurd (e refl)
+
+pub worked-counts : (s : Stepped) → Worked s → answer_turns s ≡ 1
+worked-counts (Taken a) w = event-worked a.event w.0 w.1
+worked-counts (Refused r) w = absurd w
 
 module _ (table state roll : List ℕ) (p : ℕ) (runs : status_at roll p ≡ running) where
   by-verdict : (v : Verdict) (a : Answer) → (stepped_by v (decode table) state roll p).answer ≡ Taken a → Worked (stepped_by v (decode table) state roll p).answer

@@ -105,8 +105,10 @@ abbrev pub answer_turns : Stepped → ℕ
 answer_turns (Taken answer) = event_turns answer.event
 answer_turns (Refused r) = 0
 
+-- an answer to a turn that was taken and was not idle
 abbrev pub Worked : Stepped → Type 0
-Worked answer = answer_turns answer ≡ 1
+Worked (Taken answer) = (answer.event ≡ Waiting → ⊥) × (answer.event ≡ Ended → ⊥)
+Worked (Refused r) = ⊥
 
 abbrev pub AllWorked : List Stepped → Type 0
 AllWorked [] = Unit {0}
