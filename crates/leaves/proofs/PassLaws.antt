@@ -1,25 +1,24 @@
 -- The pass over the nodes: what is kept of a node by its kind, and of a table without leaves.
 use mathlib.Core.Bool.{Bool, true, false, cond, not, ◌&&◌, ◌||◌, or-false}
 use mathlib.Core.List.{List, [], ◌∷◌}
-use mathlib.Core.Logic.{◌⊎◌, ⊎_elim}
+use mathlib.Core.Logic.{⊎_elim}
 use mathlib.Core.Path.{◌≡◌, refl, sym, ◌∙◌, ap}
-use Prim.Native.Nat.{ℕ, zero, suc, ◌+◌, ◌/◌, ◌%◌, ◌^◌, ◌≤◌, ◌<◌, min}
-use native.Mathlib.Nat.{zero-div}
+use Prim.Native.Nat.{ℕ, zero, suc, ◌+◌, ◌%◌, ◌≤◌, ◌<◌, min}
 use native.Mathlib.Omega.{arith}
 use lib.Dec.{ltb, eqb}
 use lib.ListN.{length, get_or, replicate, length-replicate}
-use borrow.Author.Tests.{ltb-true, eqb-true, eqb-false, ne_eqb}
+use borrow.Author.Tests.{ltb-true, eqb-false, ne_eqb}
 use Rattle.rules.specs.declared.Node.{Node}
 use Rattle.rules.specs.Choice.{all_below}
 use Rattle.rules.specs.Judgement.{single, effect_of, effect, holds_leave, local_if, left_locally}
-use Rattle.rules.specs.Table.{Program, nodes, node_at, statement_at, is_leave, Statement, nothing, loop}
+use Rattle.rules.specs.Table.{Program, nodes, node_at, statement_at, is_leave, Statement}
 use Rattle.rules.specs.WellFormed.{is_expression, is_statement, expression_part, statement_part, open_parts}
 use Rattle.rules.proofs.AnswerLaws.{both_left, both_right}
-use Rattle.rules.proofs.ChoiceLaws.{bool_cases, all-at}
+use Rattle.rules.proofs.ChoiceLaws.{bool_cases}
 use Rattle.rules.proofs.Formed.{Formed}
 use Rattle.rules.proofs.KindLaws.{sequence_of, branch_of, loop_of, leave_of, statement-here, sequence_fields, branch_fields, loop_fields}
 use Rattle.rules.proofs.ValueLaws.{effect-here}
-use Rattle.table.specs.Marks.{has_bit, bit_at, with_bit}
+use Rattle.table.specs.Marks.{bit_at, with_bit}
 use borrow.Rule.Slice.PartMut.{mid_of, put_mid}
 use Rattle.table.proofs.BitLaws.{length-with_bit, cleared, none-set}
 use Rattle.visit.specs.Facts.{Reading, PlaneTo, FactsTo, NotedTo}

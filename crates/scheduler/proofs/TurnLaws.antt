@@ -1,6 +1,6 @@
 -- What a turn leaves of a state and a roll that question 23 held of, be they made up: sizes, not all waiting at one node, and what
 -- is left to ask.
-use mathlib.Core.Bool.{true, false, not}
+use mathlib.Core.Bool.{true, false}
 use mathlib.Core.List.{List}
 use mathlib.Core.Logic.{◌≢◌, ⊎_elim}
 use mathlib.Core.Path.{◌≡◌, refl, sym, ◌∙◌, subst, fun_ext}
@@ -14,7 +14,7 @@ use Rattle.rules.specs.declared.Answer.{Answer}
 use Rattle.rules.specs.declared.Refusal.{Refusal}
 use Rattle.rules.specs.declared.Stepped.{Stepped}
 use Rattle.rules.specs.declared.Stepped.TheVariants.{Taken, Refused}
-use Rattle.rules.specs.Arrivals.{running, waiting, arrival_size, running_record, ended_record}
+use Rattle.rules.specs.Arrivals.{running, arrival_size, running_record, ended_record}
 use Rattle.rules.specs.Arrivals.{status_at, SameRecord, all_at_one_node}
 use Rattle.rules.specs.Collective.{arrival_of, received, completed_state, released_roll}
 use Rattle.rules.specs.Process.{stack_places, process_words, process_at, with_process, environment, depth, top, popped}

@@ -1,15 +1,15 @@
 -- What a turn leaves to ask of question 23, and how a call that serves answers.
-use Rattle.std.specs.Prelude.{Bool, true, cond, not, List, ◌≢◌, ◌≡◌, ℕ, ◌*◌, ◌<◌, length}
+use Rattle.std.specs.Prelude.{true, cond, List, ◌≢◌, ◌≡◌, ℕ, ◌*◌, ◌<◌, length}
 use Rattle.rules.specs.declared.Event.{Event}
 use Rattle.rules.specs.declared.Verdict.{Verdict}
 use Rattle.rules.specs.declared.Event.TheVariants.{Moved, Finished, Arrived, Completed, Waiting, Ended}
 use Rattle.rules.specs.Arrivals.{arrival_size}
-use Rattle.rules.specs.Choice.{first_failing, all_below}
+use Rattle.rules.specs.Choice.{first_failing}
 use Rattle.rules.specs.Process.{process_words, process_at, top}
 use Rattle.rules.specs.Run.{Team}
 use Rattle.rules.specs.Scheduling.{some_runs, next_process, Served}
 use Rattle.rules.specs.Step.{Outcome, leave_fits, process_fits}
-use Rattle.rules.specs.Table.{Program, decode, nodes, statement_at, is_leave}
+use Rattle.rules.specs.Table.{Program, decode}
 use Rattle.rules.specs.WellFormed.{is_statement, well_formed}
 use Rattle.table.specs.Header.{Passing}
 use Rattle.table.specs.declared.Header.{Header}

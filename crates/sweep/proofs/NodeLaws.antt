@@ -10,12 +10,11 @@ use lib.Dec.{ltb}
 use lib.ListN.{length, replicate}
 use borrow.Author.Tests.{ltb-true}
 use borrow.Rule.Slice.PartMut.{put_mid}
-use Rattle.rules.specs.Table.{Program, decode, procedures, nodes, body, statement_at, Statement}
+use Rattle.rules.specs.Table.{Program, decode, procedures, nodes, body, Statement}
 use Rattle.rules.specs.WellFormed.{parts_at, occurrences}
 use Rattle.rules.proofs.ChoiceLaws.{bool_cases}
 use Rattle.rules.proofs.AnywhereLaws.{either_cases}
 use Rattle.calls.specs.Blocks.{Blocks, more}
-use Rattle.calls.specs.Blocks
 use Rattle.calls.proofs.BlockLaws.{blocks-called}
 use Rattle.table.specs.declared.Header.{Header}
 use Rattle.table.specs.Sized.{Sized}
@@ -24,7 +23,7 @@ use Rattle.table.proofs.TestLaws.{never}
 use Rattle.table.proofs.UseLaws.{bits_at}
 use Rattle.visit.specs.declared.Visit.{Visit}
 use Rattle.visit.specs.Exact.{node_best, node_marks}
-use Rattle.visit.specs.Facts.{Reading, guard_code}
+use Rattle.visit.specs.Facts.{guard_code}
 use Rattle.visit.specs.Fields.{used_plane, plane_words, all_planes}
 use Rattle.visit.specs.Least.{none, least_below}
 use Rattle.quick.specs.Visited.{Visited}

@@ -2,18 +2,18 @@
 -- as the first time. No node is stuck, since nothing fails at it and its parts are used by no other node.
 use mathlib.Core.Bool.{Bool, true, false, cond, not, ◌&&◌, ◌||◌}
 use mathlib.Core.List.{List, [], ◌∷◌}
-use mathlib.Core.Logic.{◌⊎◌, inl, inr, ⊎_elim}
+use mathlib.Core.Logic.{inl, inr, ⊎_elim}
 use mathlib.Core.Path.{◌≡◌, refl, sym, ◌∙◌, ap}
-use Prim.Native.Nat.{ℕ, ◌+◌, ◌≤◌, ◌<◌, min}
-use native.Mathlib.Decide.{dec_lt, ℕ_discrete}
+use Prim.Native.Nat.{ℕ, ◌+◌, ◌≤◌, ◌<◌}
+use native.Mathlib.Decide.{dec_lt}
 use native.Mathlib.Omega.{arith}
 use lib.Dec.{eqb}
-use lib.ListN.{length, replicate}
+use lib.ListN.{replicate}
 use borrow.Author.Tests.{eq-eqb}
 use Rattle.leaves.specs.Leaves.{left_plane, left_code, PassedTo}
 use Rattle.rules.specs.Acceptance.{rule_of}
 use Rattle.rules.specs.Judgement.{single, live, counted, holds_leave, local_if, left_locally}
-use Rattle.rules.specs.Table.{Program, decode, procedures, nodes, body, node_at, statement_at, is_leave, Statement, nothing}
+use Rattle.rules.specs.Table.{Program, decode, procedures, nodes, body, node_at, statement_at, is_leave, nothing}
 use Rattle.rules.specs.WellFormed.{is_statement, kind_known, unnamed_zero, node_fits, parts_at, joined, uses, occurrences}
 use Rattle.rules.proofs.AnswerLaws.{both_right}
 use Rattle.rules.proofs.ChoiceLaws.{bool_cases}
@@ -35,11 +35,11 @@ use Rattle.table.proofs.BitLaws.{bit-other, bit-zero}
 use Rattle.visit.specs.Exact.{noted_code, repeated_code, node_best}
 use Rattle.visit.specs.Facts.{Reading, fact, rule_code, guard_code}
 use Rattle.visit.specs.Fields.{used_plane, facts_plane, leaves_plane, all_planes}
-use Rattle.visit.specs.Least.{none, failure, least_below}
+use Rattle.visit.specs.Least.{none, failure}
 use Rattle.visit.proofs.FactLaws.{plane_more, fact-statement}
 use Rattle.visit.proofs.LeastLaws.{least_more, least-high}
 use Rattle.switches.specs.Again.{Stretch, Beside, VisitedTo}
-use Rattle.switches.specs.Aside.{aside_plane, Aside}
+use Rattle.switches.specs.Aside.{aside_plane}
 use Rattle.switches.proofs.AsideLaws.{each-counted}
 
 -- nothing fails at a node by itself

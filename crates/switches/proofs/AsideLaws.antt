@@ -1,10 +1,10 @@
 -- The way down: what is marked at a node, and that in the end the marks are the statements of dead branches. A node is named once, so
 -- once all nodes above it are passed it is known whether it is marked.
-use mathlib.Core.Bool.{Bool, true, false, cond, ◌||◌}
+use mathlib.Core.Bool.{Bool, true, false, cond}
 use mathlib.Core.List.{List, [], ◌∷◌}
 use mathlib.Core.Logic.{◌⊎◌, inl, inr, ⊎_elim}
 use mathlib.Core.Path.{◌≡◌, refl, sym, ◌∙◌, ap, subst, fun_ext}
-use Prim.Native.Nat.{ℕ, ◌+◌, ◌*◌, ◌≤◌, ◌<◌}
+use Prim.Native.Nat.{ℕ, ◌+◌, ◌≤◌, ◌<◌}
 use native.Mathlib.Decide.{dec_lt}
 use native.Mathlib.Omega.{arith}
 use lib.Dec.{ltb, eqb}
@@ -17,7 +17,7 @@ use Rattle.rules.specs.WellFormed.{is_expression, is_statement, parts_at, open_p
 use Rattle.rules.proofs.ChoiceLaws.{bool_cases}
 use Rattle.rules.proofs.Formed.{Formed, statement-past}
 use Rattle.rules.proofs.HomeLaws.{sequence-statements, branch-statements, loop-statement}
-use Rattle.rules.proofs.LeaveLaws.{Sorted, counted_in, expression-nothing, user, part-sorted}
+use Rattle.rules.proofs.LeaveLaws.{counted_in, expression-nothing, user, part-sorted}
 use Rattle.rules.proofs.LiveLaws.{Never, never-live, live-up, live-part, live-body, branch-parts, branches_differ}
 use Rattle.rules.proofs.LiveLaws.{live-sequence, live-repeated, counted-live, counted-dead}
 use Rattle.rules.proofs.AnywhereLaws.{In, either_cases}

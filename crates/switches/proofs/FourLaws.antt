@@ -1,11 +1,11 @@
 -- The four planes as two parts that are lent: those of the sweep, and that of the statements set aside.
 use mathlib.Core.List.{List, ◌++◌, append-nil}
-use mathlib.Core.Path.{◌≡◌, refl, sym, ◌∙◌, ap}
+use mathlib.Core.Path.{◌≡◌, sym, ◌∙◌, ap}
 use Prim.Native.Nat.{ℕ, ◌*◌, ◌<◌}
 use native.Mathlib.Omega.{arith}
 use lib.ListN.{length, length-drop, drop_of_length-le}
 use lib.Seq.{length-take-le, take_all, take_at, drop_at}
-use borrow.Rule.Slice.PartMut.{mid_of, post_of, put_mid, same_len_mid, take_put}
+use borrow.Rule.Slice.PartMut.{mid_of, post_of, put_mid, same_len_mid}
 use Rattle.visit.specs.Fields.{plane_words, all_planes}
 use Rattle.switches.specs.Again.{Beside}
 use Rattle.switches.specs.Aside.{four_planes, work_planes, aside_plane, Aside}

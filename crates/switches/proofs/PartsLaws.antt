@@ -6,7 +6,7 @@ use Prim.Native.Nat.{ℕ, ◌<◌}
 use native.Mathlib.Omega.{arith}
 use Rattle.rules.specs.declared.Node.{Node}
 use Rattle.rules.specs.Judgement.{Fixing, fixing}
-use Rattle.rules.specs.Table.{Program, nodes, node_at, statement_of, statement_at}
+use Rattle.rules.specs.Table.{Program, nodes, node_at, statement_at}
 use Rattle.rules.specs.WellFormed.{is_expression, statement_part}
 use Rattle.rules.proofs.Formed.{Formed}
 use Rattle.rules.proofs.KindLaws.{by_kind, sequence_of, branch_of, loop_of, statement-here, sequence_fields, branch_fields, loop_fields}

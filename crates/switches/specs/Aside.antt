@@ -1,5 +1,5 @@
 -- The fourth plane: the statements that stand in dead branches.
-use Rattle.std.specs.Prelude.{Bool, true, false, cond, List, [], ◌∷◌, ◌≡◌, ℕ, ◌+◌, ◌≤◌, ◌<◌, eqb, length, take, drop}
+use Rattle.std.specs.Prelude.{true, false, cond, List, [], ◌∷◌, ◌≡◌, ℕ, ◌+◌, ◌<◌, eqb, length, take, drop}
 use Rattle.rules.specs.Judgement.{Fixing, fixed, unfixed, fixing, live, counted}
 use Rattle.rules.specs.Table.{Program, nodes, statement_at}
 use Rattle.rules.specs.Table.{Statement, nothing, assign, sequence, branch, loop, call, latch, collective, leave}

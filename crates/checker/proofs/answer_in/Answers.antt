@@ -3,7 +3,6 @@ use mathlib.Core.Path.{◌≡◌, refl, ◌∙◌}
 use Rattle.rules.specs.Acceptance.{scratch_words}
 use Rattle.switches.specs.Aside.{four_planes}
 use Rattle.table.proofs.BitLaws.{cleared}
-use borrow.Author.Rules.{rules}
 use Rattle.checker.proofs.answer_in.Goals as goal
 
 -- the words that question 1 asks for are the planes, and no more

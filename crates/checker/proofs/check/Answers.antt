@@ -7,7 +7,6 @@ use lib.ListN.{length, drop, replicate}
 use lib.Seq.{drop_at}
 use borrow.Author.Tests.{le-leb, lt-leb}
 use Rattle.rules.specs.Acceptance.{scratch_words, checked, checked_scratch}
-use borrow.Author.Rules.{rules}
 use Rattle.checker.proofs.check.Goals as goal
 
 -- the first words, once written and now zero, before the others

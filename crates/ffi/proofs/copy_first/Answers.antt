@@ -1,10 +1,8 @@
 -- `ffi::copy_first` meets its contract, from those of its callees.
 use borrow.Author.Rules.{rules}
-use mathlib.Core.List.{◌++◌}
 use mathlib.Core.Path.{◌≡◌, ◌∙◌, ap}
-use Prim.Native.Nat.{◌≤◌, ◌-◌}
 use native.Mathlib.Omega.{arith}
-use lib.ListN.{length, get_or, take, drop, set}
+use lib.ListN.{get_or, set}
 use Rattle.ffi.proofs.CopyLaws.{copied_more}
 use Rattle.ffi.proofs.copy_first.Goals as goal
 

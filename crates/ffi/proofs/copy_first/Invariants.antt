@@ -1,11 +1,8 @@
 -- `ffi::copy_first` meets its contract, from those of its callees.
-use borrow.Author.Rules.{rules}
 use mathlib.Core.List.{◌++◌}
-use mathlib.Core.Path.{◌≡◌, ◌∙◌, ap}
+use mathlib.Core.Path.{◌≡◌}
 use Prim.Native.Nat.{◌≤◌, ◌-◌}
-use native.Mathlib.Omega.{arith}
-use lib.ListN.{length, get_or, take, drop, set}
-use Rattle.ffi.proofs.CopyLaws.{copied_more}
+use lib.ListN.{length, take, drop}
 use Rattle.ffi.proofs.copy_first.Given as goal
 
 abbrev pub invariant-loop-i : goal.invariant-loop-i

@@ -5,7 +5,6 @@ use native.Mathlib.Omega.{arith}
 use lib.ListN.{length, take, drop}
 use Rattle.ffi.specs.Numbers.{copied_count, copied}
 use Rattle.ffi.proofs.CopyLaws.{few_latches}
-use borrow.Author.Rules.{rules}
 use Rattle.ffi.proofs.fc_latches.Goals as goal
 
 pub overflow_cast-result : goal.overflow_cast-result

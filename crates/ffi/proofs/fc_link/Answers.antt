@@ -1,7 +1,6 @@
 -- `ffi::fc_link` meets its contract, from those of its callees.
 use mathlib.Core.Path.{◌∙◌, ap}
 use Rattle.ffi.specs.Numbers.{link_numbers}
-use borrow.Author.Rules.{rules}
 use Rattle.ffi.proofs.fc_link.Goals as goal
 
 pub returns : goal.returns

@@ -1,6 +1,5 @@
 -- `ffi::fc_serve` meets its contract, from those of its callees.
 use mathlib.Core.Path.{◌∙◌}
-use borrow.Author.Rules.{rules}
 use Rattle.ffi.proofs.fc_serve.Goals as goal
 
 pub returns : goal.returns

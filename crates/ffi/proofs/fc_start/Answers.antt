@@ -1,7 +1,6 @@
 -- `ffi::fc_start` meets its contract, from those of its callees.
 use mathlib.Core.Path.{◌∙◌, ap}
 use Rattle.ffi.specs.Numbers.{verdict_number}
-use borrow.Author.Rules.{rules}
 use Rattle.ffi.proofs.fc_start.Goals as goal
 
 pub returns : goal.returns

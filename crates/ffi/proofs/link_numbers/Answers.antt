@@ -1,5 +1,4 @@
 -- `ffi::link_numbers` meets its contract.
-use borrow.Author.Rules.{rules}
 use Rattle.ffi.proofs.link_numbers.Goals as goal
 
 pub returns-in-Joined : goal.returns-in-Joined

@@ -1,5 +1,4 @@
 -- `ffi::serve_numbers` meets its contract.
-use borrow.Author.Rules.{rules}
 use Rattle.ffi.proofs.serve_numbers.Goals as goal
 
 pub returns-in-Accepted : goal.returns-in-Accepted

@@ -1,5 +1,4 @@
 -- `ffi::step_numbers` meets its contract, from those of its callees.
-use borrow.Author.Rules.{rules}
 use Rattle.ffi.proofs.step_numbers.Goals as goal
 
 pub returns-in-Taken : goal.returns-in-Taken

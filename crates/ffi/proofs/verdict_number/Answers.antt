@@ -1,5 +1,4 @@
 -- `ffi::verdict_number` meets its contract, from those of its callees.
-use borrow.Author.Rules.{rules}
 use Rattle.ffi.proofs.verdict_number.Goals as goal
 
 pub returns-in-Refused : goal.returns-in-Refused

@@ -5,7 +5,6 @@ use Prim.Native.Nat.{◌≤◌, ◌<◌}
 use native.Mathlib.Omega.{arith}
 use lib.ListN.{length}
 use Rattle.rules.specs.Input.{most_input_bytes}
-use borrow.Author.Rules.{rules}
 use Rattle.input.proofs.asked.Goals as goal
 
 pub returns-then-input-gt-MOST_INPUT_BYTES : goal.returns-then-input-gt-MOST_INPUT_BYTES

@@ -2,7 +2,6 @@
 use Rattle.rules.specs.Input.{behind}
 use mathlib.Core.Path.{◌∙◌, ap}
 use lib.ListN.{drop}
-use borrow.Author.Rules.{rules}
 use Rattle.input.proofs.behind.Goals as goal
 
 pub returns : goal.returns

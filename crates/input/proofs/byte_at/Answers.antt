@@ -2,7 +2,6 @@
 use native.Mathlib.Omega.{arith}
 use mathlib.Core.Path.{sym}
 use lib.ListN.{get_or-eq_default}
-use borrow.Author.Rules.{rules}
 use Rattle.input.proofs.byte_at.Goals as goal
 
 pub returns-else-i-bytes : goal.returns-else-i-bytes

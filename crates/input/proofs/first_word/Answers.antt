@@ -1,7 +1,6 @@
 -- `input::first_word` meets its contract: the word of the first bytes.
 use mathlib.Core.Path.{◌∙◌, ap}
 use Rattle.rules.specs.Table.{word_at}
-use borrow.Author.Rules.{rules}
 use Rattle.input.proofs.first_word.Goals as goal
 
 pub returns : goal.returns

@@ -2,7 +2,6 @@
 use native.Mathlib.Omega.{arith}
 use lib.ListN.{length-take}
 use Rattle.input.proofs.PartLaws.{take_within}
-use borrow.Author.Rules.{rules}
 use Rattle.input.proofs.front.Goals as goal
 
 pub slice_bounds-result-end : goal.slice_bounds-result-end

@@ -1,10 +1,7 @@
 -- `input::read_words` meets its contract: word by word, each within the bytes.
 use borrow.Author.Rules.{rules}
-use mathlib.Core.List.{◌++◌}
 use mathlib.Core.Path.{◌≡◌, refl}
-use Prim.Native.Nat.{◌≤◌, ◌-◌}
 use native.Mathlib.Omega.{arith}
-use lib.ListN.{length, drop}
 use Rattle.rules.specs.Input.{words_of}
 use Rattle.rules.specs.WellFormed.{joined}
 use Rattle.input.proofs.PartLaws.{word_more}

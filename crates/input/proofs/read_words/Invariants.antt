@@ -1,13 +1,9 @@
 -- `input::read_words` meets its contract: word by word, each within the bytes.
-use borrow.Author.Rules.{rules}
 use mathlib.Core.List.{◌++◌}
-use mathlib.Core.Path.{◌≡◌, refl}
+use mathlib.Core.Path.{◌≡◌}
 use Prim.Native.Nat.{◌≤◌, ◌-◌}
-use native.Mathlib.Omega.{arith}
 use lib.ListN.{length, drop}
 use Rattle.rules.specs.Input.{words_of}
-use Rattle.rules.specs.WellFormed.{joined}
-use Rattle.input.proofs.PartLaws.{word_more}
 use Rattle.input.proofs.read_words.Given as goal
 
 abbrev pub invariant-loop-i : goal.invariant-loop-i

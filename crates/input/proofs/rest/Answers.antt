@@ -1,6 +1,5 @@
 -- `input::rest` meets its contract.
 use Rattle.input.proofs.PartLaws.{drop-within}
-use borrow.Author.Rules.{rules}
 use Rattle.input.proofs.rest.Goals as goal
 
 pub returns : goal.returns

@@ -5,7 +5,6 @@ use lib.ListN.{length}
 use Rattle.rules.proofs.InputLaws.{few_words, taken-within}
 use Rattle.rules.specs.Input.{run_behind, run_input}
 use Rattle.input.proofs.PartLaws.{words-front}
-use borrow.Author.Rules.{rules}
 use Rattle.input.proofs.run_words.Goals as goal
 
 pub read_words-requires : goal.read_words-requires

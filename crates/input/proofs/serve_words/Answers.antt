@@ -5,7 +5,6 @@ use lib.ListN.{length}
 use Rattle.rules.proofs.InputLaws.{few_words, exactly_within}
 use Rattle.rules.specs.Input.{behind, serve_behind, words_exactly, serve_input}
 use Rattle.input.proofs.PartLaws.{words-front}
-use borrow.Author.Rules.{rules}
 use Rattle.input.proofs.serve_words.Goals as goal
 
 pub read_words-requires : goal.read_words-requires

@@ -6,7 +6,6 @@ use Rattle.rules.specs.Evaluation.{doors}
 use Rattle.rules.specs.Start.{start_size}
 use Rattle.rules.specs.Table.{decode, word_at, variables}
 use Rattle.table.specs.Header.{header_of}
-use borrow.Author.Rules.{rules}
 use Rattle.input.proofs.start_size.Goals as goal
 
 pub overflow_add-result : goal.overflow_add-result

@@ -1,6 +1,5 @@
 -- `input::table_bytes` meets its contract.
 use Rattle.rules.specs.Input.{table_bytes}
-use borrow.Author.Rules.{rules}
 use Rattle.input.proofs.table_bytes.Goals as goal
 
 pub returns : goal.returns

@@ -4,7 +4,6 @@ use native.Mathlib.Omega.{arith}
 use lib.ListN.{length}
 use Rattle.rules.proofs.InputLaws.{taken-within}
 use Rattle.rules.specs.Input.{run_input}
-use borrow.Author.Rules.{rules}
 use Rattle.input.proofs.turns.Goals as goal
 
 pub overflow_mul-words_taken : goal.overflow_mul-words_taken

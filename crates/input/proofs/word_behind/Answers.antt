@@ -1,7 +1,6 @@
 -- `input::word_behind` meets its contract.
 use mathlib.Core.Path.{◌∙◌, ap}
 use Rattle.rules.specs.Table.{word_at}
-use borrow.Author.Rules.{rules}
 use Rattle.input.proofs.word_behind.Goals as goal
 
 pub returns : goal.returns

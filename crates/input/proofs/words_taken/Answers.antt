@@ -3,7 +3,6 @@ use Prim.Native.Nat.{◌≤◌}
 use native.Mathlib.Nat.{mul-le-mul}
 use native.Mathlib.Omega.{arith}
 use Rattle.rules.specs.Input.{words_taken}
-use borrow.Author.Rules.{rules}
 use Rattle.input.proofs.words_taken.Goals as goal
 
 pub overflow_mul-each : goal.overflow_mul-each

@@ -1,5 +1,4 @@
 -- `clear_leaves` meets its contract: one plane after the other.
-use borrow.Author.Rules.{rules}
 use Rattle.leaves.proofs.PassLaws.{both_clear}
 use Rattle.leaves.proofs.clear_leaves.Goals as goal
 

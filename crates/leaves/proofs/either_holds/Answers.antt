@@ -1,6 +1,5 @@
 -- `either_holds` meets its contract.
 use mathlib.Core.Path.{sym, ◌∙◌}
-use borrow.Author.Rules.{rules}
 use Rattle.leaves.proofs.either_holds.Goals as goal
 
 pub returns-then-holds : goal.returns-then-holds

@@ -1,6 +1,5 @@
 -- `holds` meets its contract: the part lent is the plane of leaves.
 use Rattle.visit.proofs.PlaneLaws.{leaves-lent}
-use borrow.Author.Rules.{rules}
 use Rattle.leaves.proofs.holds.Goals as goal
 
 pub returns : goal.returns

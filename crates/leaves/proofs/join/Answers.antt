@@ -1,7 +1,6 @@
 -- `join` meets its contract: each plane is lent in turn.
 use Rattle.visit.proofs.PlaneLaws.{leaves-lent}
 use Rattle.leaves.proofs.PassLaws.{joined-put}
-use borrow.Author.Rules.{rules}
 use Rattle.leaves.proofs.join.Goals as goal
 
 pub returns : goal.returns

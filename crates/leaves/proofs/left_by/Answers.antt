@@ -1,6 +1,5 @@
 -- `left_by` meets its contract: three tests in turn.
 use mathlib.Core.Path.{sym, ◌∙◌}
-use borrow.Author.Rules.{rules}
 use Rattle.leaves.proofs.left_by.Goals as goal
 
 pub returns-then-is_left : goal.returns-then-is_left

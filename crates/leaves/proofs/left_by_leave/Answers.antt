@@ -2,7 +2,6 @@
 use mathlib.Core.Bool.{and-false}
 use native.Mathlib.Omega.{arith}
 use Rattle.visit.proofs.LeastLaws.{passed, failed}
-use borrow.Author.Rules.{rules}
 use Rattle.leaves.proofs.left_by_leave.Goals as goal
 
 pub returns-then-not-is_left : goal.returns-then-not-is_left

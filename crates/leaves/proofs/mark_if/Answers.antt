@@ -1,5 +1,4 @@
 -- `mark_if` meets its contract.
-use borrow.Author.Rules.{rules}
 use Rattle.leaves.proofs.mark_if.Goals as goal
 
 pub returns-then-bit : goal.returns-then-bit

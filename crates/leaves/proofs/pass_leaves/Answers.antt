@@ -4,7 +4,6 @@ use native.Mathlib.Omega.{arith}
 use Rattle.table.proofs.PassingLaws.{built-formed, header-nodes}
 use Rattle.leaves.proofs.PassLaws.{none-noted, passed_none, passed-all, passed-cleared}
 use Rattle.visit.proofs.FactLaws.{whole}
-use borrow.Author.Rules.{rules}
 use Rattle.rules.specs.Table.{decode}
 use Rattle.leaves.proofs.pass_leaves.Goals as goal
 

@@ -3,7 +3,6 @@ use mathlib.Core.Path.{refl, sym, ◌∙◌}
 use native.Mathlib.Omega.{arith}
 use Rattle.table.proofs.PassingLaws.{built-formed, readable}
 use Rattle.leaves.proofs.PassLaws.{pass_other, pass_leave, pass_loop, pass_sequence, pass_branch}
-use borrow.Author.Rules.{rules}
 use Rattle.leaves.proofs.pass_node.Goals as goal
 
 pub kind_at-kind-requires : goal.kind_at-kind-requires

@@ -1,10 +1,7 @@
 -- `pass_nodes` meets its contract. The loop's invariant: the nodes so far are passed.
 use mathlib.Core.Path.{◌≡◌, sym, ◌∙◌}
-use Prim.Native.Nat.{◌-◌, ◌≤◌}
 use native.Mathlib.Omega.{arith}
-use Rattle.leaves.specs.Leaves.{NodesPassed}
 use Rattle.leaves.proofs.PassLaws.{stretch_none, stretch_more}
-use Rattle.rules.specs.Table.{decode}
 use Rattle.leaves.proofs.pass_nodes.Goals as goal
 
 pub loop-n-init : goal.loop-n-init

@@ -1,9 +1,6 @@
 -- `pass_nodes` meets its contract. The loop's invariant: the nodes so far are passed.
-use mathlib.Core.Path.{◌≡◌, sym, ◌∙◌}
 use Prim.Native.Nat.{◌-◌, ◌≤◌}
-use native.Mathlib.Omega.{arith}
 use Rattle.leaves.specs.Leaves.{NodesPassed}
-use Rattle.leaves.proofs.PassLaws.{stretch_none, stretch_more}
 use Rattle.rules.specs.Table.{decode}
 use Rattle.leaves.proofs.pass_nodes.Given as goal
 

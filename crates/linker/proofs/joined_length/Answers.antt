@@ -1,5 +1,4 @@
 -- `joined_length` meets its contract.
-use borrow.Author.Rules.{rules}
 use mathlib.Core.Path.{sym, ◌∙◌}
 use native.Mathlib.Omega.{arith}
 use Rattle.linker.specs.Linking.{joined_length}

@@ -1,5 +1,4 @@
 -- `link_joinable` meets its contract.
-use borrow.Author.Rules.{rules}
 use mathlib.Core.Path.{sym, ◌∙◌}
 use Rattle.linker.proofs.LinkLaws.{both_formed}
 use Rattle.linker.proofs.OutcomeLaws.{output_other, output_written}

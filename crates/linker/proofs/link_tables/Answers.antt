@@ -1,5 +1,4 @@
 -- `link_tables` meets its contract.
-use borrow.Author.Rules.{rules}
 use mathlib.Core.Path.{sym, ◌∙◌}
 use Rattle.linker.proofs.OutcomeLaws.{of_library, of_program}
 use Rattle.linker.proofs.link_tables.Goals as goal

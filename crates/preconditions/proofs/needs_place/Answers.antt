@@ -5,7 +5,6 @@ use Rattle.process.proofs.StatementLaws.{top-statement, top-test}
 use Rattle.rules.specs.Table.{statement_at}
 use Rattle.rules.specs.Process.{needs_place}
 use mathlib.Core.Path.{sym}
-use borrow.Author.Rules.{rules}
 use Rattle.preconditions.proofs.needs_place.Goals as goal
 
 pub returns-then-kind-eq-SEQUENCE : goal.returns-then-kind-eq-SEQUENCE

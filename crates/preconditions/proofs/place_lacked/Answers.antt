@@ -10,7 +10,6 @@ use borrow.Author.Tests.{eq-eqb, ne_eqb}
 use lib.ListN.{length}
 use native.Mathlib.Omega.{arith}
 use mathlib.Core.Path.{sym, ◌∙◌, ap}
-use borrow.Author.Rules.{rules}
 use Rattle.preconditions.proofs.place_lacked.Goals as goal
 
 pub returns-then-status_at-ne-RUNNING : goal.returns-then-status_at-ne-RUNNING

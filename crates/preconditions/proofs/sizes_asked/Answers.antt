@@ -1,7 +1,6 @@
 -- `preconditions::sizes_asked` meets its contract.
 use Rattle.rules.specs.Step.{processes_in}
 use borrow.Author.Tests.{eq-eqb, ne_eqb, lt-leb, le-leb}
-use borrow.Author.Rules.{rules}
 use Rattle.preconditions.proofs.sizes_asked.Goals as goal
 
 pub returns-then-roll-count : goal.returns-then-roll-count

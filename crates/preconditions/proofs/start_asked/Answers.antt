@@ -2,14 +2,12 @@
 use Rattle.preconditions.proofs.QuestionLaws.{given-fits}
 use Rattle.table.specs.Header.{header_of}
 use Rattle.rules.proofs.Formed.{formed, exact}
-use Rattle.rules.specs.Table.{variables}
 use Rattle.rules.specs.Evaluation.{doors}
 use Rattle.rules.specs.Start.{start_size}
 use borrow.Author.Tests.{eq-eqb, ne_eqb, lt-leb, le-leb}
 use native.Mathlib.Omega.{arith}
 use Prim.Native.Nat.{◌+◌}
 use mathlib.Core.Path.{ap}
-use borrow.Author.Rules.{rules}
 use Rattle.preconditions.proofs.start_asked.Goals as goal
 
 pub returns-then-processes-lt1 : goal.returns-then-processes-lt1

@@ -1,7 +1,6 @@
 -- `preconditions::team_asked` meets its contract.
 use borrow.Author.Tests.{lt-ltb, le-ltb}
 use mathlib.Core.Path.{sym, ◌∙◌}
-use borrow.Author.Rules.{rules}
 use Rattle.preconditions.proofs.team_asked.Goals as goal
 
 pub returns-then-process-count : goal.returns-then-process-count

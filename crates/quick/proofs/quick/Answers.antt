@@ -10,7 +10,6 @@ use Rattle.visit.proofs.SettledLaws.{judges_0, judges_1, judges_2, judges_3, jud
 use Rattle.visit.proofs.SettledLaws.{judges_17, judges_18, judges_19, judges_20, judges_21, judges_22, judges_24, judges_25, judges_26}
 use Rattle.quick.proofs.VisitLaws.{leave-arm, word-arm, no_arm, other_as, other-either, other-operation, called-below}
 use Rattle.quick.proofs.VisitLaws.{operation-kind, unnamed-kind}
-use borrow.Author.Rules.{rules}
 use Rattle.quick.proofs.quick.Goals as goal
 
 pub settled-requires-in-5 : goal.settled-requires-in-5

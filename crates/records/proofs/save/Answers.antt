@@ -1,5 +1,5 @@
 -- `records::save` meets its contract: a turn saves one record more.
-use Rattle.std.proofs.Common.{sym, ap, ◌∙◌, arith}
+use Rattle.std.proofs.Common.{sym, ap, arith}
 use Rattle.std.proofs.Math.ListN.{set}
 use Rattle.collectives.specs.Given.{arrival_at}
 use Rattle.records.proofs.LendLaws.{saved-none, saved-next}

@@ -1,5 +1,5 @@
 -- After p turns the first p records are saved.
-use Rattle.std.proofs.Common.{◌≡◌, ◌-◌, ◌≤◌, length}
+use Rattle.std.proofs.Common.{◌≡◌, ◌-◌, ◌≤◌}
 use Rattle.records.specs.Roll.{saved}
 use Rattle.records.proofs.save.Given as goal
 

@@ -1,5 +1,4 @@
 -- `records::start` meets its contract: what is said of the words lent is said of the records saved from them.
-use Rattle.std.proofs.Common.{ap, sym}
 use Rattle.records.proofs.Recorded.{through}
 use Rattle.records.proofs.TeamCalls.{start-call}
 use Rattle.records.proofs.start.Goals as goal

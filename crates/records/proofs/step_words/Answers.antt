@@ -1,5 +1,4 @@
 -- `records::step_words` meets its contract: the words of the records lent are a prefix of the array, and the core says what becomes of them.
-use borrow.Author.Rules.{rules}
 use mathlib.Core.Path.{sym}
 use Prim.Native.Nat.{◌*◌}
 use native.Mathlib.Omega.{arith}
@@ -7,7 +6,7 @@ use lib.Seq.{length-take-le}
 use Rattle.rules.specs.Arrivals.{arrival_size}
 use Rattle.rules.specs.Step.{stepped}
 use Rattle.machine.specs.Outcomes.{Gives}
-use Rattle.records.specs.Roll.{most_lent, lent_records}
+use Rattle.records.specs.Roll.{lent_records}
 use Rattle.records.proofs.Recorded.{on_lent}
 use Rattle.records.proofs.step_words.Goals as goal
 

@@ -2,7 +2,6 @@
 use native.Mathlib.Nat.{mod_self, mod-eq_of_lt}
 use native.Mathlib.Omega.{arith}
 use mathlib.Core.Path.{sym}
-use borrow.Author.Rules.{rules}
 use Rattle.scheduler.proofs.after.Goals as goal
 
 pub returns-then-next-count : goal.returns-then-next-count

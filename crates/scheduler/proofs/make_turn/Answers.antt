@@ -1,8 +1,6 @@
 -- `scheduler::make_turn` meets its contract.
 use Rattle.scheduler.proofs.TurnLaws.{as_taken, turned, unrefused, all_left}
-use borrow.Author.Tests.{not-true}
 use mathlib.Core.Path.{sym, ◌∙◌}
-use borrow.Author.Rules.{rules}
 use Rattle.scheduler.proofs.make_turn.Goals as goal
 
 pub returns-then-not-leaving : goal.returns-then-not-leaving

@@ -1,7 +1,6 @@
 -- `scheduler::serve` meets its contract.
 use Rattle.scheduler.proofs.ServingSteps.{served-refused}
 use mathlib.Core.Path.{sym, ◌∙◌}
-use borrow.Author.Rules.{rules}
 use Rattle.scheduler.proofs.serve.Goals as goal
 
 pub serve_team-requires : goal.serve_team-requires

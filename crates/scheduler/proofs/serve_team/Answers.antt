@@ -6,7 +6,6 @@ use Rattle.rules.specs.Step.{processes_in}
 use Rattle.table.specs.Header.{header_of}
 use native.Mathlib.Omega.{arith}
 use mathlib.Core.Path.{refl}
-use borrow.Author.Rules.{rules}
 use Rattle.scheduler.proofs.serve_team.Goals as goal
 
 pub overflow_cast-count : goal.overflow_cast-count

@@ -1,6 +1,5 @@
 -- `accepted` meets its contract: 13 to 17 are asked too.
 use Rattle.sweep.specs.Asked.{asked}
-use borrow.Author.Rules.{rules}
 use Rattle.sweep.proofs.accepted.Goals as goal
 
 pub returns : goal.returns

@@ -3,7 +3,6 @@ use mathlib.Core.Path.{◌∙◌, sym}
 use native.Mathlib.Omega.{arith}
 use Rattle.table.proofs.ShapeLaws.{sized}
 use Rattle.sweep.proofs.FormedLaws.{misshapen, shaped}
-use borrow.Author.Rules.{rules}
 use Rattle.sweep.proofs.ask.Goals as goal
 
 pub header-requires : goal.header-requires

@@ -7,7 +7,6 @@ use Rattle.rules.proofs.Formed.{built}
 use Rattle.visit.specs.Facts.{guard_code}
 use Rattle.visit.proofs.LeastLaws.{least-high}
 use Rattle.sweep.proofs.FormedLaws.{refused12, accepted12, refused26, unjudged, judged-next, judged-verdict, well-built}
-use borrow.Author.Rules.{rules}
 use Rattle.sweep.proofs.ask_calls.Goals as goal
 
 pub returns-then-call-header : goal.returns-then-call-header

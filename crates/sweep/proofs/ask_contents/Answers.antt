@@ -4,7 +4,6 @@ use Rattle.visit.proofs.PlaneLaws.{used-length, length_put_used}
 use Rattle.sweep.proofs.EndLaws.{swept_high}
 use Rattle.sweep.proofs.NodeLaws.{kept_put}
 use Rattle.sweep.proofs.FormedLaws.{fails, passes, passes-first, passes_on}
-use borrow.Author.Rules.{rules}
 use Rattle.sweep.proofs.ask_contents.Goals as goal
 
 pub returns-then-best-lt-NONE : goal.returns-then-best-lt-NONE

@@ -6,7 +6,6 @@ use Rattle.table.proofs.BitLaws.{cleared}
 use Rattle.visit.specs.Fields.{plane_words}
 use Rattle.visit.proofs.PlaneLaws.{used-length, used_put_used, facts_put_used, leaves_put_used, length_put_used}
 use Rattle.sweep.proofs.FormedLaws.{fits, none_miscalled}
-use borrow.Author.Rules.{rules}
 use Rattle.sweep.proofs.first_call.Goals as goal
 
 pub returns-then-ordered : goal.returns-then-ordered

@@ -2,7 +2,6 @@
 use mathlib.Core.Path.{◌∙◌}
 use Rattle.table.proofs.PlaceLaws.{then_none}
 use Rattle.sweep.specs.Asked.{asked}
-use borrow.Author.Rules.{rules}
 use Rattle.sweep.proofs.well_formed.Goals as goal
 
 pub returns : goal.returns

@@ -8,7 +8,6 @@ use Rattle.table.proofs.BitLaws.{none-set}
 use Rattle.visit.specs.Fields.{plane_words, all_planes}
 use Rattle.switches.proofs.AsideLaws.{none-aside}
 use Rattle.switches.proofs.FourLaws.{aside-lent, aside_put_aside, length_put_aside, beside_aside}
-use borrow.Author.Rules.{rules}
 use Rattle.rules.specs.Table.{decode}
 use Rattle.switches.proofs.judge_again.Goals as goal
 

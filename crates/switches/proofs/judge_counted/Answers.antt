@@ -14,7 +14,6 @@ use Rattle.visit.proofs.LeastLaws.{least-high}
 use Rattle.switches.specs.Aside.{work_planes}
 use Rattle.switches.proofs.AsideLaws.{each-counted}
 use Rattle.switches.proofs.FourLaws.{work-length, work_put_work, beside_work}
-use borrow.Author.Rules.{rules}
 use Rattle.switches.proofs.judge_counted.Goals as goal
 
 pub visit_again-guards-requires : goal.visit_again-guards-requires

@@ -1,14 +1,8 @@
 -- `collectives::arrivals::all_at_one_node` meets its contract. The loop has passed only processes that wait at process 0's node.
-use Rattle.collectives.proofs.DownLaws.{PassedFrom, from-none, from_more, from_all}
-use Rattle.rules.proofs.ChoiceLaws.{all_true}
-use Rattle.rules.proofs.StatusLaws.{one_node_not_waiting, one_node_elsewhere}
-use Rattle.rules.proofs.AnswerLaws.{both_true}
-use Rattle.rules.specs.Arrivals.{waiting, status_at, arrival_node, all_at_one_node}
-use borrow.Author.Tests.{eq-eqb}
+use Rattle.collectives.proofs.DownLaws.{PassedFrom}
+use Rattle.rules.specs.Arrivals.{waiting, status_at, arrival_node}
 use lib.Dec.{eqb}
-use native.Mathlib.Omega.{arith}
-use Prim.Native.Nat.{ℕ, ◌-◌, ◌≤◌}
-use mathlib.Core.Path.{sym, ◌∙◌}
+use Prim.Native.Nat.{ℕ, ◌≤◌}
 use mathlib.Core.List.{List}
 use mathlib.Core.Bool.{Bool, ◌&&◌}
 use Rattle.collectives.proofs.arrivals.all_at_one_node.Given as goal

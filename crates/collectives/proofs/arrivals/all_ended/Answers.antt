@@ -1,14 +1,9 @@
 -- `collectives::arrivals::all_ended` meets its contract. The loop has passed only processes that have ended.
 use Rattle.rules.proofs.ChoiceLaws.{passed_none, passed-more}
-use Rattle.rules.proofs.ChoiceLaws.{Passed, all_true, all-false}
-use Rattle.rules.specs.Arrivals.{ended, status_at}
+use Rattle.rules.proofs.ChoiceLaws.{all_true, all-false}
 use borrow.Author.Tests.{eq-eqb, ne_eqb}
-use lib.Dec.{eqb}
 use native.Mathlib.Omega.{arith}
-use Prim.Native.Nat.{ℕ, ◌-◌, ◌≤◌}
 use mathlib.Core.Path.{◌≡◌, sym, ◌∙◌}
-use mathlib.Core.List.{List}
-use mathlib.Core.Bool.{Bool}
 use Rattle.collectives.proofs.arrivals.all_ended.Invariants.{over}
 use Rattle.collectives.proofs.arrivals.all_ended.Goals as goal
 

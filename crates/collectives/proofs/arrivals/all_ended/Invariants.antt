@@ -1,12 +1,8 @@
 -- `collectives::arrivals::all_ended` meets its contract. The loop has passed only processes that have ended.
-use Rattle.rules.proofs.ChoiceLaws.{passed_none, passed-more}
-use Rattle.rules.proofs.ChoiceLaws.{Passed, all_true, all-false}
+use Rattle.rules.proofs.ChoiceLaws.{Passed}
 use Rattle.rules.specs.Arrivals.{ended, status_at}
-use borrow.Author.Tests.{eq-eqb, ne_eqb}
 use lib.Dec.{eqb}
-use native.Mathlib.Omega.{arith}
 use Prim.Native.Nat.{ℕ, ◌-◌, ◌≤◌}
-use mathlib.Core.Path.{◌≡◌, sym, ◌∙◌}
 use mathlib.Core.List.{List}
 use mathlib.Core.Bool.{Bool}
 use Rattle.collectives.proofs.arrivals.all_ended.Given as goal

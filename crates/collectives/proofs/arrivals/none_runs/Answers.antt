@@ -1,14 +1,11 @@
 -- `collectives::arrivals::none_runs` meets its contract. The loop has passed only processes that do not run.
-use Rattle.collectives.proofs.DownLaws.{PassedFrom, from-none, from_more, from_all}
+use Rattle.collectives.proofs.DownLaws.{from-none, from_more, from_all}
 use Rattle.rules.proofs.ChoiceLaws.{all_true, all-false}
-use Rattle.rules.specs.Arrivals.{running, status_at}
 use borrow.Author.Tests.{eq-eqb, ne_eqb}
-use lib.Dec.{eqb}
 use native.Mathlib.Omega.{arith}
-use Prim.Native.Nat.{ℕ, ◌-◌, ◌≤◌}
+use Prim.Native.Nat.{◌-◌}
 use mathlib.Core.Path.{sym, ◌∙◌, ap}
-use mathlib.Core.List.{List}
-use mathlib.Core.Bool.{Bool, not}
+use mathlib.Core.Bool.{not}
 use Rattle.collectives.proofs.arrivals.none_runs.Invariants.{stopped}
 use Rattle.collectives.proofs.arrivals.none_runs.Goals as goal
 

@@ -1,12 +1,8 @@
 -- `collectives::arrivals::none_runs` meets its contract. The loop has passed only processes that do not run.
-use Rattle.collectives.proofs.DownLaws.{PassedFrom, from-none, from_more, from_all}
-use Rattle.rules.proofs.ChoiceLaws.{all_true, all-false}
+use Rattle.collectives.proofs.DownLaws.{PassedFrom}
 use Rattle.rules.specs.Arrivals.{running, status_at}
-use borrow.Author.Tests.{eq-eqb, ne_eqb}
 use lib.Dec.{eqb}
-use native.Mathlib.Omega.{arith}
-use Prim.Native.Nat.{ℕ, ◌-◌, ◌≤◌}
-use mathlib.Core.Path.{sym, ◌∙◌, ap}
+use Prim.Native.Nat.{ℕ, ◌≤◌}
 use mathlib.Core.List.{List}
 use mathlib.Core.Bool.{Bool, not}
 use Rattle.collectives.proofs.arrivals.none_runs.Given as goal

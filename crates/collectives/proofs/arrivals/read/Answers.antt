@@ -1,6 +1,5 @@
 -- `collectives::arrivals::read` meets its contract.
 use Rattle.collectives.specs.Given.{arrival_at}
-use borrow.Author.Rules.{rules}
 use Rattle.collectives.proofs.arrivals.read.Goals as goal
 
 pub returns : goal.returns

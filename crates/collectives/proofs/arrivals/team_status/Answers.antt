@@ -1,8 +1,6 @@
 -- `collectives::arrivals::team_status` meets its contract.
 use Rattle.rules.specs.Arrivals.{team_status}
-use borrow.Author.Tests.{not-true, not-false}
 use mathlib.Core.Path.{sym, ◌∙◌}
-use borrow.Author.Rules.{rules}
 use Rattle.collectives.proofs.arrivals.team_status.Goals as goal
 
 pub returns-then-not-none_runs : goal.returns-then-not-none_runs

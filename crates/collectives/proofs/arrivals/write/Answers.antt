@@ -3,7 +3,6 @@ use Rattle.rules.specs.Arrivals.{with_arrival}
 use native.Mathlib.Numerals.{towards_suc}
 use native.Mathlib.Omega.{arith}
 use lib.ListN.{length-set}
-use borrow.Author.Rules.{rules}
 use Rattle.collectives.proofs.arrivals.write.Goals as goal
 
 pub bounds-roll-at-2 : goal.bounds-roll-at-2

@@ -5,7 +5,6 @@ use Rattle.collectives.proofs.ArrivalMoves.{arrive-running}
 use Rattle.rules.specs.Collective.{arrival_of}
 use native.Mathlib.Omega.{arith}
 use mathlib.Core.Path.{◌∙◌}
-use borrow.Author.Rules.{rules}
 use Rattle.collectives.proofs.completion.arrival_of.Goals as goal
 
 pub returns-then-kind-eq-BARRIER : goal.returns-then-kind-eq-BARRIER

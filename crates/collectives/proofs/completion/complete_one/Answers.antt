@@ -2,7 +2,6 @@
 use Rattle.process.proofs.StackedLaws.{stacked-by}
 use Rattle.collectives.proofs.CollectiveLaws.{stores_low}
 use Rattle.rules.proofs.StackLaws.{received-length, received-depth}
-use borrow.Author.Rules.{rules}
 use Rattle.collectives.proofs.completion.complete_one.Goals as goal
 
 pub pop-requires : goal.pop-requires

@@ -1,11 +1,7 @@
 -- `collectives::completion::gather` meets its contract. The loop's words are those gathered from the processes passed.
-use Rattle.rules.proofs.StackLaws.{gathered-length}
 use Rattle.rules.specs.Collective.{gathered_from}
-use lib.ListN.{length}
-use native.Mathlib.Numerals.{add-one}
-use native.Mathlib.Omega.{arith}
-use Prim.Native.Nat.{◌-◌, ◌≤◌, ◌+◌, suc}
-use mathlib.Core.Path.{◌≡◌, refl, ◌∙◌, ap}
+use Prim.Native.Nat.{◌-◌, ◌≤◌}
+use mathlib.Core.Path.{◌≡◌}
 use Rattle.collectives.proofs.completion.gather.Given as goal
 
 abbrev pub invariant-loop-i : goal.invariant-loop-i

@@ -3,7 +3,6 @@ use Rattle.collectives.proofs.CollectiveLaws.{is-barrier, is-broadcast, is-excha
 use Rattle.process.proofs.AloneLaws.{collective_range}
 use Rattle.rules.specs.Collective.{received}
 use native.Mathlib.Omega.{arith}
-use borrow.Author.Rules.{rules}
 use Rattle.collectives.proofs.completion.receive.Goals as goal
 
 pub gather-requires : goal.gather-requires

@@ -1,17 +1,11 @@
 -- `collectives::completion::release` meets its contract.
 -- The loop's roll has the records of the processes passed released; the others still wait.
-use Rattle.process.proofs.LentLaws.{depth_in}
-use Rattle.rules.proofs.ArrivalLaws.{each_arrival-length, each_arrival-kept}
 use Rattle.rules.specs.Process.{process_at, depth}
-use Rattle.rules.specs.Collective.{released_roll}
-use Rattle.rules.specs.Arrivals.{each_arrival, status_at, ended_record, running_record}
+use Rattle.rules.specs.Arrivals.{each_arrival, ended_record, running_record}
 use Rattle.rules.specs.declared.Arrival.{Arrival}
-use lib.ListN.{length}
 use lib.Dec.{eqb}
-use native.Mathlib.Numerals.{add-one}
-use native.Mathlib.Omega.{arith}
-use Prim.Native.Nat.{ℕ, suc, ◌-◌, ◌≤◌, ◌+◌}
-use mathlib.Core.Path.{◌≡◌, refl, ◌∙◌, ap}
+use Prim.Native.Nat.{ℕ, ◌-◌, ◌≤◌}
+use mathlib.Core.Path.{◌≡◌}
 use mathlib.Core.List.{List}
 use mathlib.Core.Bool.{cond}
 use Rattle.collectives.proofs.completion.release.Given as goal

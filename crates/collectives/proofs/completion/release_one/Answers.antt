@@ -1,9 +1,8 @@
 -- `collectives::completion::release_one` meets its contract.
 use Rattle.collectives.proofs.ArrivalMoves.{waiting-at, resume-waiting, end-waiting}
-use Rattle.rules.specs.Arrivals.{with_arrival, end, resume}
+use Rattle.rules.specs.Arrivals.{with_arrival}
 use borrow.Author.Tests.{eq-eqb, ne_eqb}
 use mathlib.Core.Path.{◌∙◌, ap}
-use borrow.Author.Rules.{rules}
 use Rattle.collectives.proofs.completion.release_one.Goals as goal
 
 pub returns-then-depth-eq0 : goal.returns-then-depth-eq0

@@ -1,8 +1,7 @@
 -- `loose::enclosed` meets its contract.
-use mathlib.Core.Path.{sym, ◌∙◌, ap}
+use mathlib.Core.Path.{sym, ◌∙◌}
 use Rattle.table.proofs.PassingLaws.{readable, header-nodes}
 use Rattle.leaves.proofs.LooseLaws.{enclosed-other, enclosed-leave}
-use borrow.Author.Rules.{rules}
 use Rattle.leaves.proofs.loose.enclosed.Goals as goal
 
 pub kind_at-requires : goal.kind_at-requires

@@ -2,7 +2,6 @@
 use mathlib.Core.Path.{sym, ◌∙◌}
 use Rattle.table.proofs.PassingLaws.{built-formed, header-nodes}
 use Rattle.leaves.proofs.LooseLaws.{none_loose}
-use borrow.Author.Rules.{rules}
 use Rattle.leaves.proofs.loose.first_loose.Goals as goal
 
 pub returns-then-bodies_closed : goal.returns-then-bodies_closed

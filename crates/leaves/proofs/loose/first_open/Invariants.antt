@@ -1,12 +1,8 @@
 -- `loose::first_open` meets its contract: question 26 holds of the nodes passed.
-use mathlib.Core.Path.{◌≡◌, sym, ◌∙◌, ap}
 use Prim.Native.Nat.{◌-◌, ◌≤◌}
-use native.Mathlib.Omega.{arith}
-use borrow.Author.Tests.{not-true, not-false}
-use Rattle.table.proofs.PassingLaws.{header-nodes}
-use Rattle.rules.specs.Table.{decode, nodes}
+use Rattle.rules.specs.Table.{decode}
 use Rattle.rules.specs.WellFormed.{leave_enclosed}
-use Rattle.rules.proofs.ChoiceLaws.{Passed, passed_none, passed-more, first-at, first-none}
+use Rattle.rules.proofs.ChoiceLaws.{Passed}
 use Rattle.leaves.proofs.loose.first_open.Given as goal
 
 abbrev pub invariant-loop-n : goal.invariant-loop-n

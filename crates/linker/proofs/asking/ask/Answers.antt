@@ -1,5 +1,4 @@
 -- `asking::ask` meets its contract.
-use borrow.Author.Rules.{rules}
 use mathlib.Core.Path.{sym, ◌∙◌}
 use Rattle.linker.specs.Linking.{joinable}
 use Rattle.linker.proofs.asking.ask.Goals as goal

@@ -2,7 +2,6 @@
 use native.Mathlib.Omega.{arith}
 use Rattle.linker.proofs.PairLaws.{unlinked, linking, disagreeing, agreeing, many, few}
 use Rattle.table.proofs.PassingLaws.{read-sized}
-use borrow.Author.Rules.{rules}
 use Rattle.linker.proofs.asking.ask_both.Goals as goal
 
 pub overflow_cast-procedure : goal.overflow_cast-procedure

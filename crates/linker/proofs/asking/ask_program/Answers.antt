@@ -1,5 +1,4 @@
 -- `asking::ask_program` meets its contract.
-use borrow.Author.Rules.{rules}
 use mathlib.Core.Path.{sym, ◌∙◌}
 use Rattle.linker.proofs.PairLaws.{counts-there, pair_of}
 use Rattle.linker.proofs.asking.ask_program.Goals as goal

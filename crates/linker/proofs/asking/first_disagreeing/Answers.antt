@@ -1,12 +1,10 @@
 -- `asking::first_disagreeing` meets its contract. The loop's invariant: the flags passed agree.
 use mathlib.Core.Bool.{true, false}
 use mathlib.Core.Path.{◌≡◌, sym}
-use Prim.Native.Nat.{◌-◌, ◌≤◌}
 use native.Mathlib.Omega.{arith}
-use borrow.Author.Rules.{rules}
 use borrow.Author.Tests.{not-true, not-false}
 use Rattle.linker.specs.Linking.{flags_agree}
-use Rattle.rules.proofs.ChoiceLaws.{Passed, passed_none, passed-more, first-none, first-at}
+use Rattle.rules.proofs.ChoiceLaws.{passed_none, passed-more, first-none, first-at}
 use Rattle.rules.specs.Table.{decode}
 use Rattle.linker.proofs.asking.first_disagreeing.Goals as goal
 

@@ -2,7 +2,6 @@
 use borrow.Author.Tests.{le-ltb, lt-ltb, le-leb, lt-leb}
 use Rattle.linker.specs.Linking.{procedure_links}
 use Rattle.table.proofs.PassingLaws.{header-procedures}
-use borrow.Author.Rules.{rules}
 use Rattle.linker.proofs.asking.procedure_links.Goals as goal
 
 pub returns-then-both-p : goal.returns-then-both-p

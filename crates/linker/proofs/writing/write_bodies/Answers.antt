@@ -1,12 +1,10 @@
 -- `writing::write_bodies` meets its contract. The loop's invariant: the words passed are written.
-use borrow.Author.Rules.{rules}
 use mathlib.Core.Path.{◌≡◌, refl, ◌∙◌, ap}
-use Prim.Native.Nat.{◌-◌, ◌*◌, ◌≤◌}
+use Prim.Native.Nat.{◌-◌}
 use native.Mathlib.Omega.{arith}
 use lib.ListN.{length}
-use lib.Seq.{sets, length-sets}
+use lib.Seq.{length-sets}
 use Rattle.linker.specs.Given.{moved_word, body_unit, moved_procedure}
-use Rattle.rules.specs.Encoding.{word_bytes}
 use Rattle.rules.specs.WellFormed.{joined}
 use Rattle.writer.proofs.WordLaws.{word_more}
 use Rattle.linker.proofs.writing.write_bodies.Goals as goal

@@ -1,13 +1,11 @@
 -- `writing::write_nodes` meets its contract. The loop's invariant: the words passed are written.
-use borrow.Author.Rules.{rules}
 use mathlib.Core.Path.{◌≡◌, refl, sym, ◌∙◌, ap, subst}
-use Prim.Native.Nat.{◌-◌, ◌*◌, ◌≤◌}
+use Prim.Native.Nat.{◌-◌}
 use native.Mathlib.Omega.{arith}
 use lib.ListN.{length}
-use lib.Seq.{sets, length-sets}
+use lib.Seq.{length-sets}
 use Rattle.linker.specs.Given.{moved_word, Movable, part_units, node_behind, moved_node}
 use Rattle.linker.proofs.WordLaws.{units, read-packed, read-kind, read-units}
-use Rattle.rules.specs.Encoding.{word_bytes}
 use Rattle.rules.specs.WellFormed.{joined}
 use Rattle.writer.proofs.WordLaws.{word_more}
 use Rattle.linker.proofs.writing.write_nodes.Goals as goal

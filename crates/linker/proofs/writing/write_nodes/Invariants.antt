@@ -1,15 +1,11 @@
 -- `writing::write_nodes` meets its contract. The loop's invariant: the words passed are written.
-use borrow.Author.Rules.{rules}
-use mathlib.Core.Path.{◌≡◌, refl, sym, ◌∙◌, ap, subst}
+use mathlib.Core.Path.{◌≡◌}
 use Prim.Native.Nat.{◌-◌, ◌*◌, ◌≤◌}
-use native.Mathlib.Omega.{arith}
 use lib.ListN.{length}
-use lib.Seq.{sets, length-sets}
-use Rattle.linker.specs.Given.{moved_word, Movable, part_units, node_behind, moved_node}
-use Rattle.linker.proofs.WordLaws.{units, read-packed, read-kind, read-units}
+use lib.Seq.{sets}
+use Rattle.linker.specs.Given.{node_behind, moved_node}
 use Rattle.rules.specs.Encoding.{word_bytes}
 use Rattle.rules.specs.WellFormed.{joined}
-use Rattle.writer.proofs.WordLaws.{word_more}
 use Rattle.linker.proofs.writing.write_nodes.Given as goal
 
 abbrev pub invariant-loop-k : goal.invariant-loop-k

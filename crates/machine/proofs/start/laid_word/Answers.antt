@@ -1,6 +1,5 @@
 -- `machine::start::laid_word` meets its contract.
 use borrow.Author.Tests.{lt-ltb, le-ltb, eq-eqb, ne_eqb}
-use borrow.Author.Rules.{rules}
 use Rattle.machine.proofs.start.laid_word.Goals as goal
 
 pub returns-then-i-variables : goal.returns-then-i-variables

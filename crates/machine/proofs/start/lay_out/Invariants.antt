@@ -1,12 +1,9 @@
 -- `machine::start::lay_out` meets its contract. The words passed are laid out.
 use Rattle.machine.specs.Layout.{laid_word}
 use Rattle.rules.specs.Process.{process_words}
-use lib.Seq.{get_or-set_same, get_or-set_other}
-use lib.ListN.{length, get_or, length-set}
-use native.Mathlib.Omega.{arith}
-use native.Mathlib.Decide.{dec_lt}
+use lib.ListN.{length, get_or}
 use Prim.Native.Nat.{ℕ, ◌-◌, ◌<◌, ◌≤◌}
-use mathlib.Core.Path.{◌≡◌, sym, ◌∙◌}
+use mathlib.Core.Path.{◌≡◌}
 use Rattle.machine.proofs.start.lay_out.Given as goal
 
 abbrev pub invariant-loop-i : goal.invariant-loop-i

@@ -1,21 +1,10 @@
 -- `machine::start::start_state` meets its contract. The processes passed are laid out; a part of the state is lent for each.
-use Rattle.machine.proofs.StartLaws.{laid-all, given-within}
-use Rattle.process.proofs.LentLaws.{lent, back}
-use Rattle.machine.specs.Layout.{Startable}
-use Rattle.table.specs.Header.{header_of}
-use Rattle.rules.proofs.VerdictLaws.{laid, start_words-length}
-use Rattle.rules.proofs.ProcessLaws.{KeepsBelow, each_below-length, process_length}
-use Rattle.rules.proofs.Formed.{formed, exact}
 use Rattle.rules.specs.Table
 use Rattle.rules.specs.Table.{decode, procedures, main_body, body}
-use Rattle.rules.specs.Start.{start_size, start_process, start_words, start_state}
-use Rattle.rules.specs.Evaluation.{doors}
-use Rattle.rules.specs.Process.{process_words, each_process, with_process}
-use lib.ListN.{length, take, drop}
-use native.Mathlib.Numerals.{add-one}
-use native.Mathlib.Omega.{arith}
-use Prim.Native.Nat.{ℕ, suc, ◌+◌, ◌-◌, ◌*◌, ◌≤◌}
-use mathlib.Core.Path.{◌≡◌, refl, sym, ◌∙◌, ap}
+use Rattle.rules.specs.Start.{start_process, start_words}
+use Rattle.rules.specs.Process.{each_process}
+use Prim.Native.Nat.{ℕ, ◌-◌, ◌≤◌}
+use mathlib.Core.Path.{◌≡◌}
 use mathlib.Core.List.{List}
 use Rattle.machine.proofs.start.start_state.Given as goal
 

@@ -1,7 +1,6 @@
 -- `machine::team::asked` meets its contract.
 use Rattle.machine.proofs.VerdictSteps.{unformed}
 use mathlib.Core.Path.{sym, ◌∙◌}
-use borrow.Author.Rules.{rules}
 use Rattle.machine.proofs.team.asked.Goals as goal
 
 pub formed_asked-requires : goal.formed_asked-requires

@@ -1,7 +1,6 @@
 -- `machine::team::start` meets its contract.
 use Rattle.machine.proofs.VerdictSteps.{refused_form}
 use mathlib.Core.Path.{sym, ◌∙◌}
-use borrow.Author.Rules.{rules}
 use Rattle.machine.proofs.team.start.Goals as goal
 
 pub start_formed-requires : goal.start_formed-requires

@@ -1,7 +1,6 @@
 -- `machine::team::start_formed` meets its contract.
 use Rattle.machine.proofs.VerdictSteps.{refused-asked, startable, started-rolled, taken_start}
 use mathlib.Core.Path.{sym, ◌∙◌}
-use borrow.Author.Rules.{rules}
 use Rattle.machine.proofs.team.start_formed.Goals as goal
 
 pub start_state-requires : goal.start_state-requires

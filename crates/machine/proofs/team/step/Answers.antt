@@ -1,7 +1,6 @@
 -- `machine::team::step` meets its contract.
 use Rattle.machine.proofs.VerdictSteps.{denied-team}
 use mathlib.Core.Path.{sym, ◌∙◌}
-use borrow.Author.Rules.{rules}
 use Rattle.machine.proofs.team.step.Goals as goal
 
 pub step_asked-requires : goal.step_asked-requires

@@ -2,7 +2,6 @@
 use Rattle.process.proofs.LentLaws.{lent, back}
 use Rattle.rules.specs.Process.{with_process}
 use mathlib.Core.Path.{◌∙◌, ap}
-use borrow.Author.Rules.{rules}
 use Rattle.machine.proofs.turn.advance_in.Goals as goal
 
 pub advance-requires : goal.advance-requires

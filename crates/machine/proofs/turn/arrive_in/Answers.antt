@@ -2,7 +2,6 @@
 use Rattle.collectives.proofs.ArrivalMoves.{running-at}
 use Rattle.rules.specs.Arrivals.{with_arrival}
 use mathlib.Core.Path.{◌∙◌, ap}
-use borrow.Author.Rules.{rules}
 use Rattle.machine.proofs.turn.arrive_in.Goals as goal
 
 pub arrival_of-arrival-requires : goal.arrival_of-arrival-requires

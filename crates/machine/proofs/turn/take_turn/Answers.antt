@@ -1,7 +1,6 @@
 -- `machine::turn::take_turn` meets its contract.
 use Rattle.machine.proofs.OutcomeLaws.{taken-run, taken-waiting, taken-ended}
 use mathlib.Core.Path.{sym, ◌∙◌}
-use borrow.Author.Rules.{rules}
 use Rattle.rules.specs.Table.{decode}
 use Rattle.machine.proofs.turn.take_turn.Goals as goal
 

@@ -2,7 +2,6 @@
 use Rattle.rules.specs.Step.{fields_zero}
 use borrow.Author.Tests.{eq-eqb, ne_eqb}
 use mathlib.Core.Path.{sym, ◌∙◌}
-use borrow.Author.Rules.{rules}
 use Rattle.preconditions.proofs.fitting.fields_zero.Goals as goal
 
 pub returns-then-node_of-ne0 : goal.returns-then-node_of-ne0

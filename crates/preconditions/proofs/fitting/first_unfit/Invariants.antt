@@ -1,14 +1,7 @@
 -- `preconditions::fitting::first_unfit` meets its contract. The loop has passed only processes that question 23 holds of.
-use Rattle.rules.proofs.ChoiceLaws.{passed_none, passed-more}
-use Rattle.rules.proofs.ProcessLaws.{process_length}
-use Rattle.rules.proofs.ChoiceLaws.{Passed, first-at, first-none}
+use Rattle.rules.proofs.ChoiceLaws.{Passed}
 use Rattle.rules.specs.Step.{process_fits}
-use borrow.Author.Tests.{not-true, not-false}
-use lib.ListN.{length}
-use native.Mathlib.Omega.{arith}
 use Prim.Native.Nat.{◌-◌, ◌≤◌}
-use mathlib.Core.Path.{◌≡◌, sym, ◌∙◌, ap}
-use mathlib.Core.Bool.{true, false}
 use Rattle.rules.specs.Table.{decode}
 use Rattle.preconditions.proofs.fitting.first_unfit.Given as goal
 

@@ -2,7 +2,6 @@
 use Rattle.table.proofs.PassingLaws.{read-formed, read-built}
 use Rattle.process.proofs.StatementLaws.{statement-below}
 use Rattle.rules.specs.Step.{leave_fits}
-use borrow.Author.Rules.{rules}
 use Rattle.preconditions.proofs.fitting.leave_fits.Goals as goal
 
 pub nearest_loop-requires : goal.nearest_loop-requires

@@ -8,7 +8,6 @@ use borrow.Author.Tests.{eq-eqb, ne_eqb}
 use lib.Dec.{eqb}
 use native.Mathlib.Decide.{ℕ_discrete}
 use mathlib.Core.Path.{◌≡◌, ◌∙◌, ap}
-use borrow.Author.Rules.{rules}
 use Rattle.preconditions.proofs.fitting.leave_on_top.Goals as goal
 
 is-leave : (m : Node) → eqb m.kind 26 ≡ is_leave (statement_of m)

@@ -1,14 +1,11 @@
 -- `preconditions::fitting::lies_below` meets its contract. The loop has passed only entries that are not the node.
 use mathlib.Core.Bool.{Bool, not}
 use mathlib.Core.List.{List}
-use mathlib.Core.Path.{sym, ap}
 use Prim.Native.Nat.{ℕ, ◌+◌, ◌-◌, ◌≤◌}
-use native.Mathlib.Omega.{arith}
 use lib.Dec.{eqb}
 use lib.ListN.{get_or}
-use borrow.Author.Tests.{eq-eqb, ne_eqb}
 use Rattle.rules.specs.Process.{stack_at}
-use Rattle.rules.proofs.ChoiceLaws.{Passed, passed_none, passed-more, all_true, all-false}
+use Rattle.rules.proofs.ChoiceLaws.{Passed}
 use Rattle.preconditions.proofs.fitting.lies_below.Given as goal
 
 abbrev pub other : List ℕ → ℕ → ℕ → Bool

@@ -2,12 +2,11 @@
 use mathlib.Core.Bool.{Bool, true, false}
 use mathlib.Core.List.{List}
 use mathlib.Core.Path.{◌≡◌, sym, ◌∙◌, ap}
-use Prim.Native.Nat.{ℕ, ◌+◌, ◌-◌, ◌*◌, ◌≤◌}
+use Prim.Native.Nat.{ℕ, ◌+◌, ◌*◌}
 use native.Mathlib.Omega.{arith}
 use lib.ListN.{get_or}
-use borrow.Author.Tests.{not-true, not-false}
 use Rattle.rules.specs.Choice.{all_below}
-use Rattle.rules.specs.Process.{depth_at, stack_at, depth}
+use Rattle.rules.specs.Process.{depth_at, stack_at}
 use Rattle.rules.specs.Step.{stack_fits}
 use Rattle.rules.specs.WellFormed.{is_statement}
 use Rattle.table.proofs.PassingLaws.{read-sized}

@@ -3,11 +3,9 @@ use Rattle.process.proofs.StatementLaws.{statement-below}
 use Rattle.table.proofs.PassingLaws.{readable, read-formed, read-built}
 use Rattle.rules.specs.Table.{decode, node_at, statement_at, statement_of, on_collective}
 use Rattle.rules.specs.Step.{wait_fits, lacked_zero}
-use Rattle.rules.specs.Process.{top}
 use borrow.Author.Tests.{eq-eqb, ne_eqb}
 use mathlib.Core.Path.{sym, ◌∙◌, ap}
 use mathlib.Core.Bool.{false}
-use borrow.Author.Rules.{rules}
 use Rattle.preconditions.proofs.fitting.wait_fits.Goals as goal
 
 pub returns-then-entry-node_of : goal.returns-then-entry-node_of

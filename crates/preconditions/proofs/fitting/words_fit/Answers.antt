@@ -1,7 +1,6 @@
 -- `preconditions::fitting::words_fit` meets its contract.
-use borrow.Author.Tests.{lt-leb, le-leb, not-true, not-false}
+use borrow.Author.Tests.{lt-leb, le-leb}
 use mathlib.Core.Path.{sym, ◌∙◌}
-use borrow.Author.Rules.{rules}
 use Rattle.preconditions.proofs.fitting.words_fit.Goals as goal
 
 pub returns-then-words-gt-MOST_DEPTH : goal.returns-then-words-gt-MOST_DEPTH

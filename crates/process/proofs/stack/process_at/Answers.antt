@@ -1,7 +1,6 @@
 -- `process::stack::process_at` meets its contract.
 use Rattle.rules.specs.Process.{process_at}
 use Rattle.process.proofs.LentLaws.{part-size}
-use borrow.Author.Rules.{rules}
 use Rattle.process.proofs.stack.process_at.Goals as goal
 
 pub returns : goal.returns

@@ -1,6 +1,5 @@
 -- `process::stack::unwind` meets its contract. The words of each turn are on the way that the laws tell of.
-use Rattle.process.proofs.UnwindLaws.{Unwinding, unwind_stacked, unwind_found, unwind_on, unwind_end}
-use Rattle.rules.specs.Process.{depth}
+use Rattle.process.proofs.UnwindLaws.{unwind_stacked, unwind_found, unwind_on, unwind_end}
 use Rattle.rules.proofs.StackLaws.{popped-length, popped-depth}
 use native.Mathlib.Omega.{arith}
 use lib.ListN.{length}

@@ -5,7 +5,6 @@ use Rattle.process.proofs.StatementLaws.{top-statement, turn-assign, turn-sequen
 use Rattle.process.proofs.StatementLaws.{turn_repeat, turn-call, turn_body, turn-latch, turn-leave}
 use Rattle.process.proofs.AloneLaws.{no-work}
 use Rattle.rules.specs.Process.{advanced}
-use borrow.Author.Rules.{rules}
 use Rattle.process.proofs.step.advance.Goals as goal
 
 pub assign-requires : goal.assign-requires

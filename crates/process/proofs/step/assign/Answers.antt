@@ -4,7 +4,6 @@ use Rattle.rules.specs.Process.{advanced}
 use lib.ListN.{length-set}
 use native.Mathlib.Omega.{arith}
 use mathlib.Core.Path.{◌∙◌}
-use borrow.Author.Rules.{rules}
 use Rattle.process.proofs.step.assign.Goals as goal
 
 pub pop-requires : goal.pop-requires

@@ -1,7 +1,6 @@
 -- `process::step::branch` meets its contract.
 use Rattle.rules.specs.Process.{advanced}
 use borrow.Author.Tests.{eq-eqb, ne_eqb}
-use borrow.Author.Rules.{rules}
 use Rattle.process.proofs.step.branch.Goals as goal
 
 pub returns-then-test-eq0 : goal.returns-then-test-eq0

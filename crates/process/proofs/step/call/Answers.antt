@@ -1,5 +1,4 @@
 -- `process::step::call` meets its contract.
-use borrow.Author.Rules.{rules}
 use Rattle.process.proofs.step.call.Goals as goal
 
 pub returns : goal.returns

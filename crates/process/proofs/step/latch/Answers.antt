@@ -1,7 +1,6 @@
 -- `process::step::latch` meets its contract.
 use Rattle.process.proofs.StackedLaws.{stacked-latch}
 use Rattle.rules.specs.Process.{advanced}
-use borrow.Author.Rules.{rules}
 use Rattle.process.proofs.step.latch.Goals as goal
 
 pub pop-requires : goal.pop-requires

@@ -2,7 +2,6 @@
 use Rattle.loops.proofs.BuiltLaws.{nearest_few}
 use Rattle.table.proofs.PassingLaws.{read-built}
 use native.Mathlib.Omega.{arith}
-use borrow.Author.Rules.{rules}
 use Rattle.process.proofs.step.leave.Goals as goal
 
 pub nearest_loop-w-requires : goal.nearest_loop-w-requires

@@ -1,7 +1,6 @@
 -- `process::step::repeat` meets its contract.
 use Rattle.rules.specs.Process.{advanced, needs_place}
 use borrow.Author.Tests.{eq-eqb, ne_eqb}
-use borrow.Author.Rules.{rules}
 use Rattle.process.proofs.step.repeat.Goals as goal
 
 pub push-requires : goal.push-requires

@@ -2,7 +2,6 @@
 use native.Mathlib.Omega.{arith}
 use Rattle.rules.proofs.StackLaws.{replaced-length, replaced-depth}
 use mathlib.Core.Path.{◌∙◌}
-use borrow.Author.Rules.{rules}
 use Rattle.process.proofs.step.sequence.Goals as goal
 
 pub push-requires : goal.push-requires

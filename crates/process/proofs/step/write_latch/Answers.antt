@@ -1,6 +1,5 @@
 -- `process::step::write_latch` meets its contract.
 use borrow.Author.Tests.{lt-ltb, le-ltb}
-use borrow.Author.Rules.{rules}
 use Rattle.process.proofs.step.write_latch.Goals as goal
 
 pub returns-then-place-lt-LATCH_PLACES : goal.returns-then-place-lt-LATCH_PLACES

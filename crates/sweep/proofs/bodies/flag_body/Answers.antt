@@ -1,6 +1,5 @@
 -- `bodies::flag_body` meets its contract: the bit of the body stands in the lent plane of facts.
 use native.Mathlib.Omega.{arith}
-use borrow.Author.Rules.{rules}
 use mathlib.Core.Path.{sym, ◌∙◌}
 use Rattle.visit.specs.Fields.{facts_plane}
 use Rattle.visit.proofs.LeastLaws.{passed, failed}

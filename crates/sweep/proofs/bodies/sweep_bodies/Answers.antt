@@ -1,10 +1,10 @@
 -- `bodies::sweep_bodies` meets its contract: each body keeps what the sweep says so far, and raises no refusal.
 use mathlib.Core.Path.{◌≡◌, sym, ◌∙◌, ap}
-use Prim.Native.Nat.{◌≤◌, ◌<◌, ◌-◌}
+use Prim.Native.Nat.{◌<◌}
 use native.Mathlib.Omega.{arith}
 use lib.ListN.{length}
 use Rattle.rules.specs.Table.{decode, procedures}
-use Rattle.sweep.proofs.EndLaws.{Entered, entered-none, entered_all, body_swept, body-length}
+use Rattle.sweep.proofs.EndLaws.{entered-none, entered_all, body_swept, body-length}
 use Rattle.sweep.proofs.BodyLaws.{body-lower}
 use Rattle.sweep.proofs.bodies.sweep_bodies.Goals as goal
 

@@ -1,11 +1,8 @@
 -- `bodies::sweep_bodies` meets its contract: each body keeps what the sweep says so far, and raises no refusal.
-use mathlib.Core.Path.{◌≡◌, sym, ◌∙◌, ap}
-use Prim.Native.Nat.{◌≤◌, ◌<◌, ◌-◌}
-use native.Mathlib.Omega.{arith}
+use mathlib.Core.Path.{◌≡◌}
+use Prim.Native.Nat.{◌≤◌, ◌-◌}
 use lib.ListN.{length}
-use Rattle.rules.specs.Table.{decode, procedures}
-use Rattle.sweep.proofs.EndLaws.{Entered, entered-none, entered_all, body_swept, body-length}
-use Rattle.sweep.proofs.BodyLaws.{body-lower}
+use Rattle.sweep.proofs.EndLaws.{Entered}
 use Rattle.sweep.proofs.bodies.sweep_bodies.Given as goal
 
 abbrev pub invariant-loop-p : goal.invariant-loop-p

@@ -1,6 +1,5 @@
 -- `bodies::sweep_body` meets its contract: a test that fails is the procedure's least refusal, and a body that passes is noted.
 use native.Mathlib.Omega.{arith}
-use borrow.Author.Rules.{rules}
 use Rattle.table.proofs.FittingLaws.{body-low}
 use Rattle.visit.proofs.LeastLaws.{passed, failed}
 use Rattle.sweep.specs.Swept.{body_best, body_marks}

@@ -1,6 +1,5 @@
 -- `bodies::sweep_uses` meets its contract: after the nodes and the bodies only the nodes that are not used remain.
 use native.Mathlib.Omega.{arith}
-use borrow.Author.Rules.{rules}
 use Rattle.sweep.proofs.EndLaws.{swept_high}
 use Rattle.sweep.proofs.BodyLaws.{uses-met}
 use Rattle.sweep.proofs.bodies.sweep_uses.Goals as goal

@@ -1,6 +1,5 @@
 -- `bodies::unflagged` meets its contract: the least refusal so far is that of the nodes and of the procedures asked.
 use mathlib.Core.Path.{◌≡◌}
-use Prim.Native.Nat.{◌≤◌, ◌-◌, min}
 use native.Mathlib.Omega.{arith}
 use Rattle.rules.specs.Table.{decode, procedures}
 use Rattle.visit.specs.Fields.{facts_plane}

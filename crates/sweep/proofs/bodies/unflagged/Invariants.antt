@@ -1,11 +1,9 @@
 -- `bodies::unflagged` meets its contract: the least refusal so far is that of the nodes and of the procedures asked.
 use mathlib.Core.Path.{◌≡◌}
 use Prim.Native.Nat.{◌≤◌, ◌-◌, min}
-use native.Mathlib.Omega.{arith}
-use Rattle.rules.specs.Table.{decode, procedures}
+use Rattle.rules.specs.Table.{decode}
 use Rattle.visit.specs.Fields.{facts_plane}
 use Rattle.visit.specs.Least.{least_below}
-use Rattle.visit.proofs.LeastLaws.{least_more, least-high}
 use Rattle.sweep.specs.Asked.{effect_code}
 use Rattle.sweep.proofs.bodies.unflagged.Given as goal
 

@@ -1,6 +1,5 @@
 -- `bodies::unused` meets its contract: the first node that is not marked counts only where no earlier question fails.
 use native.Mathlib.Omega.{arith}
-use borrow.Author.Rules.{rules}
 use borrow.Author.Tests.{lt-ltb, le-ltb}
 use Rattle.sweep.specs.Swept.{unused_best}
 use Rattle.sweep.proofs.bodies.unused.Goals as goal

@@ -1,6 +1,5 @@
 -- `nodes::block_end` meets its contract: a body past the last node ends no block.
 use borrow.Author.Tests.{lt-ltb, le-ltb}
-use borrow.Author.Rules.{rules}
 use Rattle.sweep.proofs.nodes.block_end.Goals as goal
 
 pub returns-then-last-header : goal.returns-then-last-header

@@ -1,10 +1,6 @@
 -- `nodes::sweep_blocks` meets its contract. The loop's invariant: the blocks so far are swept, and nothing failed in them.
-use mathlib.Core.Path.{sym, ◌∙◌, ap}
-use lib.ListN.{length}
 use Prim.Native.Nat.{◌-◌}
-use native.Mathlib.Omega.{arith}
-use Rattle.sweep.proofs.NodeLaws.{Blocking, blocking_none, blocking_stops, blocking_ends}
-use Rattle.sweep.proofs.NodeLaws.{block-is, block-stops, block_more}
+use Rattle.sweep.proofs.NodeLaws.{Blocking}
 use Rattle.rules.specs.Table.{decode}
 use Rattle.sweep.proofs.nodes.sweep_blocks.Given as goal
 

@@ -1,9 +1,6 @@
 -- `nodes::sweep_quickly` meets its contract. The loop's invariant: the nodes so far are swept, and nothing failed at them.
-use mathlib.Core.Path.{sym, ◌∙◌}
 use Prim.Native.Nat.{◌-◌}
-use native.Mathlib.Omega.{arith}
 use Rattle.sweep.specs.Nodes.{Going}
-use Rattle.sweep.proofs.NodeLaws.{going-none, going_more}
 use Rattle.rules.specs.Table.{decode}
 use Rattle.sweep.proofs.nodes.sweep_quickly.Given as goal
 

@@ -1,11 +1,6 @@
 -- `nodes::sweep_rest` meets its contract. The loop's invariant: the nodes so far are swept, and something fails at the next.
-use mathlib.Core.Path.{◌≡◌, sym, ◌∙◌}
-use lib.ListN.{length}
 use Prim.Native.Nat.{◌-◌}
-use native.Mathlib.Omega.{arith}
-use borrow.Author.Rules.{rules}
-use Rattle.visit.proofs.PlaneLaws.{used-length, length_put_used}
-use Rattle.sweep.proofs.NodeLaws.{Resting, resting_none, resting_more, resting_ends}
+use Rattle.sweep.proofs.NodeLaws.{Resting}
 use Rattle.rules.specs.Table.{decode}
 use Rattle.sweep.proofs.nodes.sweep_rest.Given as goal
 

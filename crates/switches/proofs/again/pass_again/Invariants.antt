@@ -1,21 +1,11 @@
 -- `again::pass_again` meets its contract: no leave counts in a table without any. The loop's invariant: the nodes so far that count are
 -- passed.
-use mathlib.Core.Path.{◌≡◌, sym, ◌∙◌}
 use Prim.Native.Nat.{◌-◌, ◌≤◌}
-use native.Mathlib.Omega.{arith}
-use borrow.Author.Tests.{not-true}
 use Rattle.leaves.specs.Leaves.{PassedTo}
-use Rattle.leaves.proofs.PassLaws.{none_passed, passed_none, passed-all}
-use Rattle.loops.proofs.BuiltLaws.{no_leave_at}
-use Rattle.table.proofs.PassingLaws.{read-formed, read-built, header-nodes}
 use Rattle.rules.specs.Judgement.{counted}
 use Rattle.rules.specs.Table.{decode, nodes}
-use Rattle.table.proofs.BitLaws.{bit-zero}
-use Rattle.visit.specs.Fields.{plane_words}
 use Rattle.switches.specs.Again.{Beside}
 use Rattle.switches.specs.Aside.{work_planes}
-use Rattle.switches.proofs.AgainLaws.{uncounted_leaves}
-use Rattle.switches.proofs.FourLaws.{work-length}
 use Rattle.switches.proofs.again.pass_again.Given as goal
 
 abbrev pub invariant-loop-reached : goal.invariant-loop-reached

@@ -4,7 +4,6 @@ use Rattle.table.proofs.PassingLaws.{read-formed, read-built, header-nodes}
 use Rattle.switches.specs.Aside.{work_planes}
 use Rattle.switches.proofs.AgainLaws.{stretch_within, stretch_counts, stretch_dead, passed-past, counting}
 use Rattle.switches.proofs.FourLaws.{work-length, work_put_work, beside_work}
-use borrow.Author.Rules.{rules}
 use Rattle.rules.specs.Table.{decode}
 use Rattle.switches.proofs.again.pass_stretch.Goals as goal
 

@@ -1,13 +1,8 @@
 -- `again::stretch_end` meets its contract. The loop's invariant: no node so far is marked.
-use mathlib.Core.Bool.{false}
 use mathlib.Core.Path.{◌≡◌, sym, ◌∙◌}
-use Prim.Native.Nat.{ℕ, ◌-◌, ◌≤◌, ◌<◌}
 use native.Mathlib.Decide.{dec_lt}
 use native.Mathlib.Omega.{arith}
-use Rattle.table.specs.Marks.{bit_at}
-use Rattle.switches.specs.Aside.{aside_plane}
 use Rattle.switches.proofs.FourLaws.{aside-lent, aside-bound}
-use borrow.Author.Rules.{rules}
 use Rattle.switches.proofs.again.stretch_end.Goals as goal
 
 pub loop-end-init : goal.loop-end-init

@@ -1,13 +1,9 @@
 -- `again::stretch_end` meets its contract. The loop's invariant: no node so far is marked.
 use mathlib.Core.Bool.{false}
-use mathlib.Core.Path.{◌≡◌, sym, ◌∙◌}
+use mathlib.Core.Path.{◌≡◌}
 use Prim.Native.Nat.{ℕ, ◌-◌, ◌≤◌, ◌<◌}
-use native.Mathlib.Decide.{dec_lt}
-use native.Mathlib.Omega.{arith}
 use Rattle.table.specs.Marks.{bit_at}
 use Rattle.switches.specs.Aside.{aside_plane}
-use Rattle.switches.proofs.FourLaws.{aside-lent, aside-bound}
-use borrow.Author.Rules.{rules}
 use Rattle.switches.proofs.again.stretch_end.Given as goal
 
 abbrev pub invariant-loop-end : goal.invariant-loop-end

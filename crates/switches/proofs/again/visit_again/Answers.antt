@@ -1,11 +1,8 @@
 -- `again::visit_again` meets its contract. The loop's invariant: the nodes so far that count are visited.
 use mathlib.Core.Path.{◌≡◌, sym, ◌∙◌}
-use Prim.Native.Nat.{◌-◌, ◌≤◌}
 use native.Mathlib.Omega.{arith}
 use Rattle.table.proofs.PassingLaws.{read-formed, header-nodes}
 use Rattle.rules.specs.Table.{decode, nodes}
-use Rattle.switches.specs.Again.{Beside, VisitedTo}
-use Rattle.switches.specs.Aside.{work_planes}
 use Rattle.switches.proofs.AgainLaws.{visited-none}
 use Rattle.switches.proofs.again.visit_again.Goals as goal
 

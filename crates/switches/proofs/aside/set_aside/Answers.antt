@@ -1,12 +1,10 @@
 -- `aside::set_aside` meets its contract. The loop's invariant: the nodes from n on are passed.
-use mathlib.Core.List.{List}
 use mathlib.Core.Path.{◌≡◌, sym, ◌∙◌, ap}
-use Prim.Native.Nat.{ℕ, ◌+◌, ◌-◌, ◌≤◌}
+use Prim.Native.Nat.{◌+◌, ◌-◌}
 use native.Mathlib.Omega.{arith}
-use lib.ListN.{length, length-replicate}
+use lib.ListN.{length}
 use Rattle.table.proofs.PassingLaws.{read-formed, header-nodes}
-use Rattle.rules.specs.Table.{decode, nodes}
-use Rattle.switches.proofs.AsideLaws.{AsideTo, aside_none, aside-more, aside-all}
+use Rattle.switches.proofs.AsideLaws.{aside_none, aside-more, aside-all}
 use Rattle.switches.proofs.aside.set_aside.Goals as goal
 
 pub loop-n-init : goal.loop-n-init

@@ -1,12 +1,7 @@
 -- `aside::set_aside` meets its contract. The loop's invariant: the nodes from n on are passed.
-use mathlib.Core.List.{List}
-use mathlib.Core.Path.{◌≡◌, sym, ◌∙◌, ap}
-use Prim.Native.Nat.{ℕ, ◌+◌, ◌-◌, ◌≤◌}
-use native.Mathlib.Omega.{arith}
-use lib.ListN.{length, length-replicate}
-use Rattle.table.proofs.PassingLaws.{read-formed, header-nodes}
+use Prim.Native.Nat.{◌≤◌}
 use Rattle.rules.specs.Table.{decode, nodes}
-use Rattle.switches.proofs.AsideLaws.{AsideTo, aside_none, aside-more, aside-all}
+use Rattle.switches.proofs.AsideLaws.{AsideTo}
 use Rattle.switches.proofs.aside.set_aside.Given as goal
 
 abbrev pub invariant-loop-n : goal.invariant-loop-n

@@ -1,7 +1,6 @@
 -- `aside::set_both` meets its contract.
 use mathlib.Core.Path.{◌∙◌, ap}
 use Rattle.table.specs.Marks.{with_bit, with_bits}
-use borrow.Author.Rules.{rules}
 use Rattle.switches.proofs.aside.set_both.Goals as goal
 
 pub returns : goal.returns

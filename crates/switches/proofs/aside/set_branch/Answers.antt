@@ -9,7 +9,6 @@ use Rattle.table.proofs.PassingLaws.{read-formed, readable, read-built}
 use Rattle.rules.specs.declared.Node.{Node}
 use Rattle.table.specs.Marks.{with_bits}
 use Rattle.switches.proofs.PartsLaws.{branch-few, branch-test, branch-never, chosen-few, other-never}
-use borrow.Author.Rules.{rules}
 use Rattle.switches.proofs.aside.set_branch.Goals as goal
 
 pub node_at-node-requires : goal.node_at-node-requires

@@ -4,7 +4,6 @@ use native.Mathlib.Omega.{arith}
 use Rattle.table.proofs.PassingLaws.{read-formed, readable, read-built}
 use Rattle.switches.specs.Aside.{aside_marks}
 use Rattle.switches.proofs.PartsLaws.{plain-marks}
-use borrow.Author.Rules.{rules}
 use Rattle.switches.proofs.aside.set_node.Goals as goal
 
 pub kind_at-requires : goal.kind_at-requires

@@ -5,7 +5,6 @@ use Rattle.table.proofs.PassingLaws.{read-formed, readable, read-built}
 use Rattle.rules.specs.declared.Node.{Node}
 use Rattle.table.specs.Marks.{with_bits}
 use Rattle.switches.proofs.PartsLaws.{sequence-few, sequence-inner, branch-few, branch-inner, loop-few, loop-inner, other-inner}
-use borrow.Author.Rules.{rules}
 use Rattle.switches.proofs.aside.set_parts.Goals as goal
 
 pub node_at-node-requires : goal.node_at-node-requires

@@ -1,5 +1,5 @@
 -- `values::evaluation::apply` meets its contract.
-use Rattle.std.proofs.Common.{arith, rules, le-ltb, lt-ltb, eq-eqb, ne_eqb}
+use Rattle.std.proofs.Common.{arith, le-ltb, lt-ltb, eq-eqb, ne_eqb}
 use Rattle.values.proofs.NumberLaws.{operator_both}
 use Rattle.values.specs.Given.{operator_of}
 use Rattle.rules.specs.Evaluation.{applied}

@@ -1,6 +1,6 @@
 -- `values::evaluation::difference` meets its contract.
 use Rattle.rules.specs.Evaluation.{applied}
-use Rattle.std.proofs.Common.{arith, rules}
+use Rattle.std.proofs.Common.{arith}
 use Rattle.values.proofs.evaluation.difference.Goals as goal
 
 pub returns-then-y-x : goal.returns-then-y-x

@@ -1,5 +1,5 @@
 -- `values::evaluation::door` meets its contract.
-use Rattle.std.proofs.Common.{rules, le-ltb, lt-ltb}
+use Rattle.std.proofs.Common.{le-ltb, lt-ltb}
 use Rattle.values.proofs.evaluation.door.Goals as goal
 
 pub returns-then-place-lt-DOOR_PLACES : goal.returns-then-place-lt-DOOR_PLACES

@@ -1,7 +1,7 @@
 -- `values::evaluation::leaf` meets its contract.
 use Rattle.rules.specs.Table.{expression_of}
 use Rattle.rules.specs.Evaluation.{value_of}
-use Rattle.std.proofs.Common.{◌≡◌, arith, rules}
+use Rattle.std.proofs.Common.{◌≡◌, arith}
 use Rattle.values.proofs.evaluation.leaf.Goals as goal
 
 pub returns-then-kind-eq-CONSTANT : goal.returns-then-kind-eq-CONSTANT

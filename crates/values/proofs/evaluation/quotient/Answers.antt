@@ -1,6 +1,6 @@
 -- `values::evaluation::quotient` meets its contract.
 use Rattle.rules.specs.Evaluation.{applied}
-use Rattle.std.proofs.Common.{rules, eq-eqb, ne_eqb}
+use Rattle.std.proofs.Common.{eq-eqb, ne_eqb}
 use Rattle.values.proofs.evaluation.quotient.Goals as goal
 
 pub returns-then-y-eq0 : goal.returns-then-y-eq0

@@ -1,5 +1,5 @@
 -- `values::evaluation::slot` meets its contract.
-use Rattle.std.proofs.Common.{rules, le-ltb, lt-ltb}
+use Rattle.std.proofs.Common.{le-ltb, lt-ltb}
 use Rattle.values.proofs.evaluation.slot.Goals as goal
 
 pub returns-then-x-count : goal.returns-then-x-count

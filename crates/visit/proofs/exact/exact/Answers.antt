@@ -1,7 +1,6 @@
 -- `exact::exact` meets its contract: questions 7, 8 and 9 in turn, and 11 where they pass.
 use Rattle.visit.proofs.LeastLaws.{failed, passed}
 use Rattle.visit.specs.Exact.{node_best, node_marks}
-use borrow.Author.Rules.{rules}
 use Rattle.visit.proofs.exact.exact.Goals as goal
 
 pub returns-then-not-kind_known : goal.returns-then-not-kind_known

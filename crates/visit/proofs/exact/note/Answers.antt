@@ -2,7 +2,6 @@
 use mathlib.Core.Path.{sym, ◌∙◌}
 use Rattle.table.specs.Marks.{with_bit}
 use Rattle.visit.specs.Exact.{noted_code}
-use borrow.Author.Rules.{rules}
 use Rattle.visit.proofs.exact.note.Goals as goal
 
 pub returns-then-marked : goal.returns-then-marked

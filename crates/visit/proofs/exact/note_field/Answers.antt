@@ -3,7 +3,6 @@ use mathlib.Core.Path.{sym, ◌∙◌}
 use Rattle.table.specs.Roles.{field_parts}
 use Rattle.table.specs.Marks.{with_bits}
 use Rattle.visit.specs.Exact.{repeated_code}
-use borrow.Author.Rules.{rules}
 use Rattle.visit.proofs.exact.note_field.Goals as goal
 
 pub note-requires : goal.note-requires

@@ -1,7 +1,6 @@
 -- `exact::note_parts` meets its contract: the three fields are noted one after the other.
 use native.Mathlib.Omega.{arith}
 use Rattle.visit.proofs.QuickLaws.{markable, a-below, b-below, c-below, three-codes}
-use borrow.Author.Rules.{rules}
 use Rattle.visit.proofs.exact.note_parts.Goals as goal
 
 pub note_field-after_a-requires : goal.note_field-after_a-requires

@@ -1,6 +1,5 @@
 -- `facts::either` meets its contract: the second fact is read where the first does not hold.
 use mathlib.Core.Path.{sym, ◌∙◌}
-use borrow.Author.Rules.{rules}
 use Rattle.visit.proofs.facts.either.Goals as goal
 
 pub returns-then-fact : goal.returns-then-fact

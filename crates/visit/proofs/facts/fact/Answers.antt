@@ -1,5 +1,4 @@
 -- `facts::fact` meets its contract: the part lent is the plane of facts.
-use borrow.Author.Rules.{rules}
 use Rattle.visit.proofs.PlaneLaws.{facts-lent}
 use Rattle.visit.proofs.facts.fact.Goals as goal
 

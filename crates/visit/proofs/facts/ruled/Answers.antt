@@ -1,6 +1,5 @@
 -- `facts::ruled` meets its contract: a refusal is less than none.
 use native.Mathlib.Omega.{arith}
-use borrow.Author.Rules.{rules}
 use borrow.Author.Tests.{ne_eqb}
 use Rattle.visit.specs.Facts.{ruled}
 use Rattle.visit.proofs.facts.ruled.Goals as goal

@@ -2,8 +2,6 @@
 use mathlib.Core.Path.{◌≡◌}
 use Prim.Native.Nat.{◌%◌}
 use native.Mathlib.Omega.{arith}
-use borrow.Author.Rules.{rules}
-use borrow.Author.Tests.{not-false}
 use Rattle.visit.proofs.PlaneLaws.{facts-lent}
 use Rattle.visit.proofs.SettledLaws.{settled-stuck, settled_still, settled-marked}
 use Rattle.visit.proofs.facts.settled.Goals as goal

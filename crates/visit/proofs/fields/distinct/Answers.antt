@@ -1,7 +1,6 @@
 -- `fields::distinct` meets its contract: two fields that are parts, compared.
 use Rattle.visit.proofs.LeastLaws.{failed, passed}
 use Rattle.visit.specs.Fields.{distinct}
-use borrow.Author.Rules.{rules}
 use Rattle.visit.proofs.fields.distinct.Goals as goal
 
 pub returns-then-not-is_part : goal.returns-then-not-is_part

@@ -4,7 +4,6 @@ use mathlib.Core.Path.{sym, ◌∙◌}
 use Rattle.table.proofs.FittingLaws.{part-below}
 use Rattle.visit.proofs.LeastLaws.{failed, passed}
 use Rattle.visit.specs.Fields.{field_free}
-use borrow.Author.Rules.{rules}
 use Rattle.visit.proofs.fields.field_free.Goals as goal
 
 pub returns-then-not-field_zero : goal.returns-then-not-field_zero

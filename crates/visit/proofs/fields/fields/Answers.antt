@@ -2,7 +2,6 @@
 use mathlib.Core.Path.{◌∙◌, ap}
 use borrow.Rule.Slice.PartMut.{put_mid}
 use Rattle.visit.proofs.PlaneLaws.{used-length, used-kept, used_put_used, facts_put_used, leaves_put_used, length_put_used}
-use borrow.Author.Rules.{rules}
 use Rattle.visit.proofs.fields.fields.Goals as goal
 
 pub returns : goal.returns

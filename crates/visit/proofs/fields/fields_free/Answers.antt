@@ -1,7 +1,6 @@
 -- `fields::fields_free` meets its contract: three fields tested, then each two compared.
 use Rattle.visit.proofs.LeastLaws.{failed, passed, held, ended}
 use Rattle.visit.specs.Fields.{fields_free}
-use borrow.Author.Rules.{rules}
 use Rattle.visit.proofs.fields.fields_free.Goals as goal
 
 pub returns-then-not-field_free : goal.returns-then-not-field_free

@@ -3,7 +3,6 @@ use mathlib.Core.Path.{sym, ◌∙◌}
 use native.Mathlib.Omega.{arith}
 use Rattle.table.specs.Marks.{with_bits}
 use Rattle.table.specs.Roles.{field_parts}
-use borrow.Author.Rules.{rules}
 use Rattle.visit.proofs.fields.take.Goals as goal
 
 pub mark-requires : goal.mark-requires

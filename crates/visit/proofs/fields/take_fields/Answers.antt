@@ -4,7 +4,6 @@ use native.Mathlib.Omega.{arith}
 use Rattle.table.proofs.TestLaws.{never}
 use Rattle.visit.proofs.LeastLaws.{passed, failed}
 use Rattle.visit.proofs.QuickLaws.{markable, three, part_low, used-three}
-use borrow.Author.Rules.{rules}
 use Rattle.visit.proofs.fields.take_fields.Goals as goal
 
 pub returns-then-not-fields_free : goal.returns-then-not-fields_free

@@ -1,6 +1,5 @@
 -- `least::verdict` meets its contract: a number below none is a refusal.
 use borrow.Author.Tests.{lt-ltb, le-ltb}
-use borrow.Author.Rules.{rules}
 use Rattle.visit.proofs.least.verdict.Goals as goal
 
 pub returns-then-best-lt-NONE : goal.returns-then-best-lt-NONE

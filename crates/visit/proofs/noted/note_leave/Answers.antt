@@ -4,7 +4,6 @@ use lib.ListN.{length}
 use Rattle.table.proofs.BitLaws.{length-with_bit}
 use Rattle.table.proofs.TestLaws.{never}
 use Rattle.visit.proofs.PlaneLaws.{leaves-lent, leaves-length, leaves_put_leaves, kept-none, kept_put}
-use borrow.Author.Rules.{rules}
 use Rattle.visit.proofs.noted.note_leave.Goals as goal
 
 pub returns-then-used : goal.returns-then-used
