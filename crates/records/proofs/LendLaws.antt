@@ -1,76 +1,17 @@
 -- Laws of the words that a call lends the core: how they are loaded, and what is saved of them.
 use mathlib.Core.List.{List, ◌++◌}
 use mathlib.Core.Path.{◌≡◌, refl, ap, sym, ◌∙◌, subst}
-use Prim.Native.Nat.{ℕ, zero, suc, ◌+◌, ◌-◌, ◌*◌, ◌≤◌, ◌<◌, ◌^◌, min}
+use Prim.Native.Nat.{ℕ, zero, suc, ◌+◌, ◌-◌, ◌*◌, ◌≤◌, ◌<◌}
 use native.Mathlib.Decide.{dec_lt}
 use native.Mathlib.Numerals.{add-one}
 use native.Mathlib.Omega.{arith}
-use borrow.Table.Elements.{same_len}
-use lib.ListN.{length, get_or, set, take, drop, replicate, length-set, drop_of_length-le}
-use lib.Seq.{set_at, take_at, drop_at, take-suc, take_all, append_snoc, length-take-le, get_or-set_same, get_or-set_other, get_or-take, ext_get_or}
+use lib.ListN.{length, get_or, set, take, replicate, length-set}
+use lib.Seq.{set_at, take_at, take-suc, append_snoc, length-take-le, get_or-set_same, get_or-set_other, get_or-take, ext_get_or}
 use Rattle.rules.specs.declared.Arrival.{Arrival}
 use Rattle.rules.specs.Arrivals.{arrival_size, running_record, with_arrival}
 use Rattle.collectives.specs.Given.{arrival_at}
-use Rattle.records.specs.Roll.{most_lent, lent_words, roll_words, lent_records, loaded, saved}
+use Rattle.records.specs.Roll.{most_lent, lent_words, roll_words, loaded, saved}
 use Rattle.records.proofs.RollLaws.{words-length, words_append, words-set, words-at}
-
--- record p of those lent of n: it is there, and the machine has its number, its place in bytes and the number after it
-pub record Lent (n p : ℕ) : Type 0 where
-  pub within : p < n
-  pub few : p < most_lent
-  pub fits : p < 2 ^ 64
-  pub byte_fits : p * 16 < 2 ^ 64
-  pub next_fits : p + 1 < 2 ^ 64
-
-pub lent : (n p : ℕ) → p < lent_records n → Lent n p
-lent n p less =
-    let there : p < n = omega arith in
-    let few : p < most_lent = omega arith in
-    record { within = there; few = few; fits = omega arith; byte_fits = omega arith; next_fits = omega arith }
-
--- as much of a list of the limit's length
-take_most : (n limit : ℕ) (xs : List Arrival) → length xs ≡ limit → take (min n limit) xs ≡ take n xs
-take_most n limit xs e =
-    elim (dec_lt n limit) [
-      | yes l ↦ let least : min n limit ≡ n = omega arith in rw least
-      | no m ↦
-          let least : min n limit ≡ limit = omega arith in
-          rw (least, take_all limit xs (omega (arith, e)), take_all n xs (omega (arith, e)))
-    ]
-
-drop_most : (n limit : ℕ) (xs : List Arrival) → length xs ≡ limit → drop (min n limit) xs ≡ drop n xs
-drop_most n limit xs e =
-    elim (dec_lt n limit) [
-      | yes l ↦ let least : min n limit ≡ n = omega arith in rw least
-      | no m ↦
-          let least : min n limit ≡ limit = omega arith in
-          rw (least, drop_of_length-le xs {i = limit} (omega (arith, e)), drop_of_length-le xs {i = n} (omega (arith, e)))
-    ]
-
-pub most_length : (n limit : ℕ) (xs : List Arrival) → length xs ≡ limit → length (take (min n limit) xs) ≡ min n limit
-most_length n limit xs e = length-take-le (min n limit) xs (omega (arith, e))
-
--- a list whose first elements were replaced: those, and the others
-module _ (n limit : ℕ) (xs ys : List Arrival) (sized : length xs ≡ limit) (same : length ys ≡ length (take (min n limit) xs)) where
-  replaced-length : length (ys ++ drop (min n limit) xs) ≡ limit
-  replaced-length = same_len (min n limit) xs ys same ∙ sized
-
-  at_seam : length ys ≡ min n limit
-  at_seam = same ∙ most_length n limit xs sized
-
-  replaced-take : take n (ys ++ drop (min n limit) xs) ≡ ys
-  replaced-take = sym (take_most n limit (ys ++ drop (min n limit) xs) replaced-length) ∙ take_at ys (drop (min n limit) xs) (min n limit) at_seam
-
-  -- what is said of the first elements before and after is said of as many of the whole lists, and the others stay
-  pub replaced : (Said : List Arrival → List Arrival → Type 0) → Said (take (min n limit) xs) ys
-      → Said (take n xs) (take n (ys ++ drop (min n limit) xs)) × (drop n (ys ++ drop (min n limit) xs) ≡ drop n xs)
-  replaced Said said = (
-    subst (λ l. Said l (take n (ys ++ drop (min n limit) xs))) (take_most n limit xs sized)
-        (subst (Said (take (min n limit) xs)) (sym replaced-take) said),
-    sym (drop_most n limit (ys ++ drop (min n limit) xs) replaced-length)
-        ∙ drop_at ys (drop (min n limit) xs) (min n limit) at_seam
-        ∙ drop_most n limit xs sized,
-  )
 
 -- nothing is loaded yet; one record more
 pub loaded-none : (roll : List Arrival) → loaded roll 0 ≡ replicate lent_words 0

@@ -4,7 +4,7 @@ use mathlib.Core.Path.{◌≡◌, refl, ap, sym, ◌∙◌}
 use Prim.Native.Nat.{ℕ, zero, suc, ◌+◌, ◌*◌, ◌≤◌, ◌<◌}
 use native.Mathlib.Nat.{zero-add, suc-add}
 use native.Mathlib.Omega.{arith}
-use lib.ListN.{length, length-append, get_or, set, get_or-append}
+use lib.ListN.{length, get_or, set, get_or-append}
 use lib.Seq.{sets, set_out, get_or-append-add, ext_get_or}
 use Rattle.rules.specs.declared.Arrival.{Arrival}
 use Rattle.rules.specs.declared.Status.{Status}
@@ -16,7 +16,7 @@ use Rattle.records.specs.Roll.{roll_words}
 pub words-length : (roll : List Arrival) → length (roll_words roll) ≡ arrival_size * length roll
 unfolding roll_words
 words-length [] = refl
-words-length (a ∷ roll) = simp (length-append, words-length roll) (omega arith)
+words-length (a ∷ roll) = simp (words-length roll) (omega arith)
 
 pub words_append : (xs ys : List Arrival) → roll_words (xs ++ ys) ≡ roll_words xs ++ roll_words ys
 unfolding roll_words

@@ -49,6 +49,7 @@ fn load(roll: &[Arrival]) -> [u32; LENT_WORDS]
     let count = lesser(roll.len(), MOST_LENT);
     let mut p = 0;
     while p < count {
+        // In two steps: the borrow checker does not cover a call whose answer is laid in an array that is there.
         let after = placed(words, p, roll[p]);
         words = after;
         p += 1;

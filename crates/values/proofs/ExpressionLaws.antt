@@ -3,11 +3,13 @@ use Rattle.std.proofs.Common.{◌≡◌, ℕ, ◌<◌, ◌≤◌, true, List, ap
 use Rattle.rules.specs.declared.Node.{Node}
 use Rattle.rules.specs.Evaluation.{Environment, value_of, value}
 use Rattle.rules.specs.Table.{Program, decode, last_expression, nodes, node_at, unpacked, expression_of, Expression, operation}
-use Rattle.rules.specs.WellFormed.{is_expression, expression_part}
-use Rattle.rules.proofs.Formed.{Formed}
+use Rattle.rules.specs.WellFormed.{is_expression, expression_part, well_formed}
+use Rattle.rules.proofs.Formed.{Formed, formed}
 use Rattle.rules.proofs.KindLaws.{operation_of, expression-here}
 use Rattle.rules.proofs.PartLaws.{expression_part-below, expression_part-sort}
 use Rattle.rules.proofs.ValueLaws.{value-at}
+use Rattle.table.specs.Header.{Passing}
+use Rattle.table.specs.declared.Header.{Header}
 use Rattle.values.specs.Given.{operator_of, Part}
 
 pub record Packed (m : Node) : Type 0 where
@@ -46,3 +48,12 @@ module _ (program : Program) (formed : Formed program) (n : ℕ) (m : Node) (her
   pub kind-low : is_expression program n ≡ true → m.kind ≤ last_expression
   unfolding is_expression
   kind-low e = rw (← here) at (leb-true (node_at program n).kind last_expression e)
+
+-- and of the node that is read of a table that passed 2 to 12 and 26
+module _ (table : List ℕ) (header : Header) (read : Passing well_formed table header) (n : ℕ) (part : Part (decode table) n) (m : Node)
+    (here : m ≡ node_at (decode table) n) where
+  pub read-shape : Formed (decode table)
+  read-shape = formed table read.passed
+
+  pub read-low : m.kind ≤ last_expression
+  read-low = kind-low (decode table) read-shape n m here part.1

@@ -12,5 +12,4 @@ invariant-loop-p l =
     (l.p ≤ l.count) × (l.marks ≡ replicate 8 0) × (l.lowest ≡ first_failing (calls_of (decode l.table) l.p) (nodes (decode l.table)))
 
 abbrev pub decreases-loop-p : goal.decreases-loop-p
-decreases-loop-p l =
-    l.count - l.p
+decreases-loop-p l = l.count - l.p

@@ -5,9 +5,7 @@ use Prim.Native.Nat.{◌≤◌}
 use Rattle.calls.proofs.take_top.Given as goal
 
 abbrev pub invariant-loop-k : goal.invariant-loop-k
-invariant-loop-k l =
-    (l.k ≤ 8) × (l.marks ≡ l.initial.marks) × ClearFrom l.marks l.k
+invariant-loop-k l = (l.k ≤ 8) × (l.marks ≡ l.initial.marks) × ClearFrom l.marks l.k
 
 abbrev pub decreases-loop-k : goal.decreases-loop-k
-decreases-loop-k l =
-    l.k
+decreases-loop-k l = l.k

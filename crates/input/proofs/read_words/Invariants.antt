@@ -11,5 +11,4 @@ invariant-loop-i l =
     (l.i ≤ l.count) × (length l.words ≡ length l.initial.words) × (l.words ≡ words_of l.i l.bytes ++ drop l.i l.initial.words)
 
 abbrev pub decreases-loop-i : goal.decreases-loop-i
-decreases-loop-i l =
-    l.count - l.i
+decreases-loop-i l = l.count - l.i

@@ -9,5 +9,4 @@ invariant-loop-n l =
     (l.first ≤ l.n) × (l.n ≤ l.end) × NodesPassed (decode l.table) l.first l.n l.start l.initial.planes l.planes l.least
 
 abbrev pub decreases-loop-n : goal.decreases-loop-n
-decreases-loop-n l =
-    l.end - l.n
+decreases-loop-n l = l.end - l.n

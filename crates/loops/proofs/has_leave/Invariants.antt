@@ -10,9 +10,7 @@ abbrev pub stays : List ℕ → ℕ → Bool
 stays table n = not (is_leave (statement_at (decode table) n))
 
 abbrev pub invariant-loop-n : goal.invariant-loop-n
-invariant-loop-n l =
-    (l.n ≤ l.nodes) × Passed (stays l.table) l.n
+invariant-loop-n l = (l.n ≤ l.nodes) × Passed (stays l.table) l.n
 
 abbrev pub decreases-loop-n : goal.decreases-loop-n
-decreases-loop-n l =
-    l.nodes - l.n
+decreases-loop-n l = l.nodes - l.n

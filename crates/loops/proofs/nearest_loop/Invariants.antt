@@ -5,9 +5,7 @@ use Rattle.rules.specs.Table.{decode}
 use Rattle.loops.proofs.nearest_loop.Given as goal
 
 abbrev pub invariant-loop-m : goal.invariant-loop-m
-invariant-loop-m l =
-    Climbed (decode l.table) l.n l.inner l.m
+invariant-loop-m l = Climbed (decode l.table) l.n l.inner l.m
 
 abbrev pub decreases-loop-m : goal.decreases-loop-m
-decreases-loop-m l =
-    l.count - l.m
+decreases-loop-m l = l.count - l.m

@@ -13,5 +13,4 @@ invariant-loop-k l =
     (l.k ≤ l.count) × (length l.out ≡ length l.initial.out) × (l.out ≡ sets l.initial.out (4 * l.to) (joined (λ j. word_bytes (word_at l.table (l.from + j))) l.k))
 
 abbrev pub decreases-loop-k : goal.decreases-loop-k
-decreases-loop-k l =
-    l.count - l.k
+decreases-loop-k l = l.count - l.k

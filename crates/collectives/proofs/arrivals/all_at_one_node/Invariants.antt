@@ -11,9 +11,7 @@ abbrev pub waits_there : List ℕ → ℕ → Bool
 waits_there roll p = eqb (status_at roll p) waiting && eqb (arrival_node roll p) (arrival_node roll 0)
 
 abbrev pub invariant-loop-p : goal.invariant-loop-p
-invariant-loop-p l =
-    (l.p ≤ l.count) × PassedFrom (waits_there l.roll) l.p l.count
+invariant-loop-p l = (l.p ≤ l.count) × PassedFrom (waits_there l.roll) l.p l.count
 
 abbrev pub decreases-loop-p : goal.decreases-loop-p
-decreases-loop-p l =
-    l.p
+decreases-loop-p l = l.p

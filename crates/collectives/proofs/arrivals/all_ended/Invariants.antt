@@ -11,9 +11,7 @@ abbrev pub over : List ℕ → ℕ → Bool
 over roll p = eqb (status_at roll p) ended
 
 abbrev pub invariant-loop-p : goal.invariant-loop-p
-invariant-loop-p l =
-    (l.p ≤ l.count) × Passed (over l.roll) l.p
+invariant-loop-p l = (l.p ≤ l.count) × Passed (over l.roll) l.p
 
 abbrev pub decreases-loop-p : goal.decreases-loop-p
-decreases-loop-p l =
-    l.count - l.p
+decreases-loop-p l = l.count - l.p

@@ -11,9 +11,7 @@ abbrev pub stopped : List ℕ → ℕ → Bool
 stopped roll p = not (eqb (status_at roll p) running)
 
 abbrev pub invariant-loop-p : goal.invariant-loop-p
-invariant-loop-p l =
-    (l.p ≤ l.count) × PassedFrom (stopped l.roll) l.p l.count
+invariant-loop-p l = (l.p ≤ l.count) × PassedFrom (stopped l.roll) l.p l.count
 
 abbrev pub decreases-loop-p : goal.decreases-loop-p
-decreases-loop-p l =
-    l.p
+decreases-loop-p l = l.p

@@ -12,5 +12,4 @@ invariant-loop-p l =
     (l.p ≤ l.count) × (l.state ≡ each_process (taken l.roll l.count (collective_of l.node)) l.p l.initial.state)
 
 abbrev pub decreases-loop-p : goal.decreases-loop-p
-decreases-loop-p l =
-    l.count - l.p
+decreases-loop-p l = l.count - l.p

@@ -5,9 +5,7 @@ use mathlib.Core.Path.{◌≡◌}
 use Rattle.collectives.proofs.completion.gather.Given as goal
 
 abbrev pub invariant-loop-i : goal.invariant-loop-i
-invariant-loop-i l =
-    (l.i ≤ l.count) × (l.words ≡ gathered_from l.roll l.area l.i l.initial.words)
+invariant-loop-i l = (l.i ≤ l.count) × (l.words ≡ gathered_from l.roll l.area l.i l.initial.words)
 
 abbrev pub decreases-loop-i : goal.decreases-loop-i
-decreases-loop-i l =
-    l.count - l.i
+decreases-loop-i l = l.count - l.i

@@ -14,9 +14,7 @@ abbrev pub released : List ℕ → ℕ → Arrival
 released state q = cond (eqb (depth (process_at state q)) 0) ended_record running_record
 
 abbrev pub invariant-loop-p : goal.invariant-loop-p
-invariant-loop-p l =
-    (l.p ≤ l.count) × (l.roll ≡ each_arrival (released l.state) l.p l.initial.roll)
+invariant-loop-p l = (l.p ≤ l.count) × (l.roll ≡ each_arrival (released l.state) l.p l.initial.roll)
 
 abbrev pub decreases-loop-p : goal.decreases-loop-p
-decreases-loop-p l =
-    l.count - l.p
+decreases-loop-p l = l.count - l.p

@@ -12,5 +12,4 @@ invariant-loop-p l =
     (l.p ≤ l.count) × Passed (λ q. not (bit_at (leaves_plane l.planes) (body (decode l.table) q % 256))) l.p
 
 abbrev pub decreases-loop-p : goal.decreases-loop-p
-decreases-loop-p l =
-    l.count - l.p
+decreases-loop-p l = l.count - l.p

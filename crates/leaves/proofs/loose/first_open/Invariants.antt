@@ -6,9 +6,7 @@ use Rattle.rules.proofs.ChoiceLaws.{Passed}
 use Rattle.leaves.proofs.loose.first_open.Given as goal
 
 abbrev pub invariant-loop-n : goal.invariant-loop-n
-invariant-loop-n l =
-    (l.n ≤ l.count) × Passed (leave_enclosed (decode l.table)) l.n
+invariant-loop-n l = (l.n ≤ l.count) × Passed (leave_enclosed (decode l.table)) l.n
 
 abbrev pub decreases-loop-n : goal.decreases-loop-n
-decreases-loop-n l =
-    l.count - l.n
+decreases-loop-n l = l.count - l.n

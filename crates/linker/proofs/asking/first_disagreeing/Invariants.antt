@@ -6,9 +6,7 @@ use Rattle.rules.specs.Table.{decode}
 use Rattle.linker.proofs.asking.first_disagreeing.Given as goal
 
 abbrev pub invariant-loop-v : goal.invariant-loop-v
-invariant-loop-v l =
-    (l.v ≤ l.count) × Passed (flags_agree (decode l.library) (decode l.program)) l.v
+invariant-loop-v l = (l.v ≤ l.count) × Passed (flags_agree (decode l.library) (decode l.program)) l.v
 
 abbrev pub decreases-loop-v : goal.decreases-loop-v
-decreases-loop-v l =
-    l.count - l.v
+decreases-loop-v l = l.count - l.v

@@ -6,9 +6,7 @@ use Rattle.rules.specs.Table.{decode}
 use Rattle.linker.proofs.asking.first_unlinked.Given as goal
 
 abbrev pub invariant-loop-p : goal.invariant-loop-p
-invariant-loop-p l =
-    (l.p ≤ l.count) × Passed (procedure_links (decode l.library) (decode l.program)) l.p
+invariant-loop-p l = (l.p ≤ l.count) × Passed (procedure_links (decode l.library) (decode l.program)) l.p
 
 abbrev pub decreases-loop-p : goal.decreases-loop-p
-decreases-loop-p l =
-    l.count - l.p
+decreases-loop-p l = l.count - l.p

@@ -14,5 +14,4 @@ invariant-loop-k l =
     × (l.out ≡ sets l.initial.out (4 * l.first) (joined (λ i. word_bytes (moved_procedure l.both l.program i)) l.k))
 
 abbrev pub decreases-loop-k : goal.decreases-loop-k
-decreases-loop-k l =
-    l.count - l.k
+decreases-loop-k l = l.count - l.k

@@ -11,5 +11,4 @@ invariant-loop-i l =
     (l.i ≤ process_words) × (length l.words ≡ process_words) × ((k : ℕ) → k < l.i → get_or l.words k 0 ≡ laid_word l.variables l.entry l.given k)
 
 abbrev pub decreases-loop-i : goal.decreases-loop-i
-decreases-loop-i l =
-    process_words - l.i
+decreases-loop-i l = process_words - l.i

@@ -5,9 +5,7 @@ use mathlib.Core.Path.{◌≡◌}
 use Rattle.machine.proofs.start.start_roll.Given as goal
 
 abbrev pub invariant-loop-p : goal.invariant-loop-p
-invariant-loop-p l =
-    (l.p ≤ l.count) × (l.roll ≡ each_arrival (λ q. running_record) l.p l.initial.roll)
+invariant-loop-p l = (l.p ≤ l.count) × (l.roll ≡ each_arrival (λ q. running_record) l.p l.initial.roll)
 
 abbrev pub decreases-loop-p : goal.decreases-loop-p
-decreases-loop-p l =
-    l.count - l.p
+decreases-loop-p l = l.count - l.p

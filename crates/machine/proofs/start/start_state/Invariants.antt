@@ -20,9 +20,7 @@ pub record Laying (table : List ℕ) (count : ℕ) (words state₀ : List ℕ) (
   pub reached : state ≡ each_process (laid_for table words) p state₀
 
 abbrev pub invariant-loop-p : goal.invariant-loop-p
-invariant-loop-p l =
-    Laying l.table l.count l.words l.initial.state l.variables l.entry l.state l.p
+invariant-loop-p l = Laying l.table l.count l.words l.initial.state l.variables l.entry l.state l.p
 
 abbrev pub decreases-loop-p : goal.decreases-loop-p
-decreases-loop-p l =
-    l.count - l.p
+decreases-loop-p l = l.count - l.p

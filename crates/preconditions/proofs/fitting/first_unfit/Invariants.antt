@@ -6,9 +6,7 @@ use Rattle.rules.specs.Table.{decode}
 use Rattle.preconditions.proofs.fitting.first_unfit.Given as goal
 
 abbrev pub invariant-loop-p : goal.invariant-loop-p
-invariant-loop-p l =
-    (l.p ≤ l.count) × Passed (process_fits (decode l.table) l.state l.roll) l.p
+invariant-loop-p l = (l.p ≤ l.count) × Passed (process_fits (decode l.table) l.state l.roll) l.p
 
 abbrev pub decreases-loop-p : goal.decreases-loop-p
-decreases-loop-p l =
-    l.count - l.p
+decreases-loop-p l = l.count - l.p

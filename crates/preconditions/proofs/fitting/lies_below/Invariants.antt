@@ -12,9 +12,7 @@ abbrev pub other : List ℕ → ℕ → ℕ → Bool
 other words w i = not (eqb (get_or words (stack_at + i) 0) w)
 
 abbrev pub invariant-loop-height : goal.invariant-loop-height
-invariant-loop-height l =
-    (l.height ≤ l.below) × Passed (other l.words l.w) l.height
+invariant-loop-height l = (l.height ≤ l.below) × Passed (other l.words l.w) l.height
 
 abbrev pub decreases-loop-height : goal.decreases-loop-height
-decreases-loop-height l =
-    l.below - l.height
+decreases-loop-height l = l.below - l.height

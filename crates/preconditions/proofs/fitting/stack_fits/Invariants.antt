@@ -13,9 +13,7 @@ abbrev pub entry-fits : List ℕ → List ℕ → ℕ → Bool
 entry-fits table words i = is_statement (decode table) (get_or words (stack_at + i) 0)
 
 abbrev pub invariant-loop-i : goal.invariant-loop-i
-invariant-loop-i l =
-    (l.i ≤ l.pairs) × Passed (entry-fits l.table l.words) (2 * l.i)
+invariant-loop-i l = (l.i ≤ l.pairs) × Passed (entry-fits l.table l.words) (2 * l.i)
 
 abbrev pub decreases-loop-i : goal.decreases-loop-i
-decreases-loop-i l =
-    l.pairs - l.i
+decreases-loop-i l = l.pairs - l.i

@@ -6,9 +6,7 @@ use Rattle.sweep.proofs.EndLaws.{Entered}
 use Rattle.sweep.proofs.bodies.sweep_bodies.Given as goal
 
 abbrev pub invariant-loop-p : goal.invariant-loop-p
-invariant-loop-p l =
-    (l.p ≤ l.count) × (length l.marks ≡ 8) × Entered l.table l.p l.best l.marks × (l.best ≤ l.first)
+invariant-loop-p l = (l.p ≤ l.count) × (length l.marks ≡ 8) × Entered l.table l.p l.best l.marks × (l.best ≤ l.first)
 
 abbrev pub decreases-loop-p : goal.decreases-loop-p
-decreases-loop-p l =
-    l.count - l.p
+decreases-loop-p l = l.count - l.p

@@ -12,5 +12,4 @@ invariant-loop-p l =
     (l.p ≤ l.count) × (l.best ≡ min l.rule (least_below (effect_code (decode l.table) (facts_plane l.planes)) l.p))
 
 abbrev pub decreases-loop-p : goal.decreases-loop-p
-decreases-loop-p l =
-    l.count - l.p
+decreases-loop-p l = l.count - l.p

@@ -5,9 +5,7 @@ use Rattle.rules.specs.Table.{decode}
 use Rattle.sweep.proofs.nodes.sweep_blocks.Given as goal
 
 abbrev pub invariant-loop-p : goal.invariant-loop-p
-invariant-loop-p l =
-    Blocking (decode l.table) l.planes l.n l.p l.rule
+invariant-loop-p l = Blocking (decode l.table) l.planes l.n l.p l.rule
 
 abbrev pub decreases-loop-p : goal.decreases-loop-p
-decreases-loop-p l =
-    l.count - l.p
+decreases-loop-p l = l.count - l.p

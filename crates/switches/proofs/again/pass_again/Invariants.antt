@@ -14,5 +14,4 @@ invariant-loop-reached l =
     × PassedTo (decode l.table) (counted (decode l.table)) l.rule (work_planes l.initial.planes) l.reached.node (work_planes l.planes) l.reached.rule
 
 abbrev pub decreases-loop-reached : goal.decreases-loop-reached
-decreases-loop-reached l =
-    l.count - l.reached.node
+decreases-loop-reached l = l.count - l.reached.node

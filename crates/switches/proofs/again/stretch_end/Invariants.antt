@@ -11,5 +11,4 @@ invariant-loop-end l =
     (l.n ≤ l.end) × (l.end ≤ l.count) × ((k : ℕ) → l.n ≤ k → k < l.end → bit_at (aside_plane l.planes) k ≡ false)
 
 abbrev pub decreases-loop-end : goal.decreases-loop-end
-decreases-loop-end l =
-    l.count - l.end
+decreases-loop-end l = l.count - l.end

@@ -10,5 +10,4 @@ invariant-loop-reached l =
     (l.reached.node ≤ nodes (decode l.table)) × Beside (decode l.table) l.planes × VisitedTo (decode l.table) l.reached.node (work_planes l.planes) l.reached.rule
 
 abbrev pub decreases-loop-reached : goal.decreases-loop-reached
-decreases-loop-reached l =
-    l.count - l.reached.node
+decreases-loop-reached l = l.count - l.reached.node

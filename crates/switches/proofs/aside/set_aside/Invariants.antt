@@ -5,9 +5,7 @@ use Rattle.switches.proofs.AsideLaws.{AsideTo}
 use Rattle.switches.proofs.aside.set_aside.Given as goal
 
 abbrev pub invariant-loop-n : goal.invariant-loop-n
-invariant-loop-n l =
-    (l.n ≤ nodes (decode l.table)) × AsideTo (decode l.table) l.n l.aside
+invariant-loop-n l = (l.n ≤ nodes (decode l.table)) × AsideTo (decode l.table) l.n l.aside
 
 abbrev pub decreases-loop-n : goal.decreases-loop-n
-decreases-loop-n l =
-    l.n
+decreases-loop-n l = l.n

@@ -11,5 +11,4 @@ invariant-loop-i l =
     × (l.i ≤ l.i-end) × (l.i-end ≡ length l.initial.marks)
 
 abbrev pub decreases-loop-i : goal.decreases-loop-i
-decreases-loop-i l =
-    l.i-end - l.i
+decreases-loop-i l = l.i-end - l.i

@@ -5,9 +5,7 @@ use Prim.Native.Nat.{◌+◌, ◌≤◌, ◌-◌}
 use Rattle.table.proofs.marks.first_unmarked.Given as goal
 
 abbrev pub invariant-loop-n : goal.invariant-loop-n
-invariant-loop-n l =
-    (l.n ≤ l.count + 32) × Passed (bit_at l.marks) l.n
+invariant-loop-n l = (l.n ≤ l.count + 32) × Passed (bit_at l.marks) l.n
 
 abbrev pub decreases-loop-n : goal.decreases-loop-n
-decreases-loop-n l =
-    l.count - l.n
+decreases-loop-n l = l.count - l.n

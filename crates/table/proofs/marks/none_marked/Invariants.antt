@@ -6,9 +6,7 @@ use Rattle.rules.proofs.ChoiceLaws.{Passed}
 use Rattle.table.proofs.marks.none_marked.Given as goal
 
 abbrev pub invariant-loop-i : goal.invariant-loop-i
-invariant-loop-i l =
-    (l.i ≤ length l.marks) × Passed (λ k. eqb (get_or l.marks k 0) 0) l.i
+invariant-loop-i l = (l.i ≤ length l.marks) × Passed (λ k. eqb (get_or l.marks k 0) 0) l.i
 
 abbrev pub decreases-loop-i : goal.decreases-loop-i
-decreases-loop-i l =
-    l.count - l.i
+decreases-loop-i l = l.count - l.i

@@ -1,27 +1,12 @@
 -- `values::fixing::fixing` meets its contract.
-use Rattle.std.proofs.Common.{◌≡◌, ℕ, ◌≤◌, List, sym, ap, ◌∙◌, arith}
-use Rattle.rules.specs.declared.Node.{Node}
-use Rattle.rules.specs.Table.{decode, last_expression, node_at}
-use Rattle.rules.specs.WellFormed.{well_formed}
-use Rattle.rules.proofs.Formed.{Formed, formed}
+use Rattle.std.proofs.Common.{sym, ap, ◌∙◌, arith}
+use Rattle.rules.specs.Table.{decode}
 use Rattle.rules.proofs.KindLaws.{first_part, second-part}
-use Rattle.table.specs.Header.{Passing}
-use Rattle.table.specs.declared.Header.{Header}
 use Rattle.table.proofs.PassingLaws.{readable, read-built}
 use Rattle.values.specs.Fixed.{fixed_as}
-use Rattle.values.specs.Given.{Part}
-use Rattle.values.proofs.ExpressionLaws.{packed-here, part-lower, kind-low}
+use Rattle.values.proofs.ExpressionLaws.{packed-here, part-lower, read-shape, read-low}
 use Rattle.values.proofs.FixingLaws.{fixed-constant, fixed-none, fixed-operation, first-unfixed, second-unfixed}
 use Rattle.values.proofs.fixing.+fixing.Goals as goal
-
--- what the node that was read tells
-module _ (table : List ℕ) (header : Header) (read : Passing well_formed table header) (n : ℕ) (part : Part (decode table) n)
-    (m : Node) (here : m ≡ node_at (decode table) n) where
-  shape : Formed (decode table)
-  shape = formed table read.passed
-
-  low : m.kind ≤ last_expression
-  low = kind-low (decode table) shape n m here part.1
 
 pub node_at-node-requires : goal.node_at-node-requires
 node_at-node-requires t c = readable (read-built c.requires.0) c.requires.1.0
@@ -34,46 +19,46 @@ constant-requires t c =
 pub returns-then-kind-eq-CONSTANT : goal.returns-then-kind-eq-CONSTANT
 returns-then-kind-eq-CONSTANT t c =
     let here = c.node_at-node.ensures in
-    fixed-constant (decode c.args.table.now) (shape _ _ c.requires.0 _ c.requires.1 _ here) c.args.n c.node_at-node.result here
+    fixed-constant (decode c.args.table.now) (read-shape _ _ c.requires.0 _ c.requires.1 _ here) c.args.n c.node_at-node.result here
     c.if-kind-eq-CONSTANT.true c.constant.ensures
 
 pub returns-then-kind-lt-SUM : goal.returns-then-kind-lt-SUM
 returns-then-kind-lt-SUM t c =
     let here = c.node_at-node.ensures in
-    fixed-none (decode c.args.table.now) (shape _ _ c.requires.0 _ c.requires.1 _ here) c.args.n c.node_at-node.result here
+    fixed-none (decode c.args.table.now) (read-shape _ _ c.requires.0 _ c.requires.1 _ here) c.args.n c.node_at-node.result here
     c.if-kind-eq-CONSTANT.false c.if-kind-lt-SUM.true
 
 pub fixing-requires : goal.fixing-requires
 fixing-requires t c =
     let here = c.node_at-node.ensures in
-    let fits = first_part _ (shape _ _ c.requires.0 _ c.requires.1 _ here) _ _ here (omega (arith, c.if-kind-lt-SUM.false))
-    (low _ _ c.requires.0 _ c.requires.1 _ here) in
+    let fits = first_part _ (read-shape _ _ c.requires.0 _ c.requires.1 _ here) _ _ here (omega (arith, c.if-kind-lt-SUM.false))
+    (read-low _ _ c.requires.0 _ c.requires.1 _ here) in
     let part = part-lower _ _ _ fits c.requires.1.0 in
     (omega arith, (c.requires.0, part.1))
 
 pub returns-in_default : goal.returns-in_default
 returns-in_default t c =
     let here = c.node_at-node.ensures in
-    first-unfixed (decode c.args.table.now) (shape _ _ c.requires.0 _ c.requires.1 _ here) c.args.n c.node_at-node.result here
-    c.if-kind-lt-SUM.false (low _ _ c.requires.0 _ c.requires.1 _ here) (sym (ap fixed_as c.in_default.is) ∙ c.fixing.ensures)
+    first-unfixed (decode c.args.table.now) (read-shape _ _ c.requires.0 _ c.requires.1 _ here) c.args.n c.node_at-node.result here
+    c.if-kind-lt-SUM.false (read-low _ _ c.requires.0 _ c.requires.1 _ here) (sym (ap fixed_as c.in_default.is) ∙ c.fixing.ensures)
 
 pub fixing-requires-2 : goal.fixing-requires-2
 fixing-requires-2 t c =
     let here = c.node_at-node.ensures in
-    let fits = second-part _ (shape _ _ c.requires.0 _ c.requires.1 _ here) _ _ here c.if-kind-lt-SUM.false
-    (low _ _ c.requires.0 _ c.requires.1 _ here) in
+    let fits = second-part _ (read-shape _ _ c.requires.0 _ c.requires.1 _ here) _ _ here c.if-kind-lt-SUM.false
+    (read-low _ _ c.requires.0 _ c.requires.1 _ here) in
     let part = part-lower _ _ _ fits c.requires.1.0 in
     (omega arith, (c.requires.0, part.1))
 
 pub returns-in_default-fixing : goal.returns-in_default-fixing
 returns-in_default-fixing t c =
     let here = c.node_at-node.ensures in
-    second-unfixed (decode c.args.table.now) (shape _ _ c.requires.0 _ c.requires.1 _ here) c.args.n c.node_at-node.result here
-    c.if-kind-lt-SUM.false (low _ _ c.requires.0 _ c.requires.1 _ here) (sym (ap fixed_as c.in_default-fixing.is) ∙ c.fixing-2.ensures)
+    second-unfixed (decode c.args.table.now) (read-shape _ _ c.requires.0 _ c.requires.1 _ here) c.args.n c.node_at-node.result here
+    c.if-kind-lt-SUM.false (read-low _ _ c.requires.0 _ c.requires.1 _ here) (sym (ap fixed_as c.in_default-fixing.is) ∙ c.fixing-2.ensures)
 
 pub returns : goal.returns
 returns t c =
     let here = c.node_at-node.ensures in
-    fixed-operation (decode c.args.table.now) (shape _ _ c.requires.0 _ c.requires.1 _ here) c.args.n c.node_at-node.result here
-    c.if-kind-lt-SUM.false (low _ _ c.requires.0 _ c.requires.1 _ here) (sym (ap fixed_as c.in-Value.is) ∙ c.fixing.ensures)
+    fixed-operation (decode c.args.table.now) (read-shape _ _ c.requires.0 _ c.requires.1 _ here) c.args.n c.node_at-node.result here
+    c.if-kind-lt-SUM.false (read-low _ _ c.requires.0 _ c.requires.1 _ here) (sym (ap fixed_as c.in-Value.is) ∙ c.fixing.ensures)
     (sym (ap fixed_as c.in-Value-fixing.is) ∙ c.fixing-2.ensures) c.apply.ensures
