@@ -2,28 +2,17 @@
 use mathlib.Core.Bool.{true, false}
 use mathlib.Core.List.{List}
 use mathlib.Core.Path.{◌≡◌, sym, ◌∙◌, ap}
-use Prim.Native.Nat.{ℕ, suc, ◌+◌, ◌-◌, ◌*◌, ◌/◌, ◌%◌, ◌^◌, ◌≤◌, ◌<◌}
-use native.Mathlib.Decide.{dec_lt, ℕ_discrete}
+use Prim.Native.Nat.{ℕ, ◌+◌, ◌-◌, ◌*◌, ◌/◌, ◌%◌, ◌^◌, ◌≤◌, ◌<◌}
+use native.Mathlib.Decide.{ℕ_discrete}
 use native.Mathlib.Nat.{zero-div, div-eq_of_lt, div-lt_iff_lt-mul, one-mul}
-use native.Mathlib.Numerals.{add-one}
 use native.Mathlib.Omega.{arith}
-use lib.Count.{count_leading_zeros, leading_top}
 use lib.ListN.{length, get_or, set, replicate, length-set, get_or-replicate}
 use lib.Pow.{pow_pos, pow_mono, pow-add}
 use lib.Seq.{get_or-set_same, get_or-set_other, ext_get_or}
+use Rattle.std.proofs.Common.{None, Some}
 use Rattle.table.specs.Marks.{has_bit, bit_at, with_bit}
 use Rattle.table.proofs.BitLaws.{bit_added, bit_kept, bit-same, bit-other, shifted}
 use Rattle.calls.specs.Walk.{ClearFrom, Topped, empty, taken}
-
--- the place of the highest bit
-pub top-place : (w : ℕ) → 0 < w → w < 2 ^ 32
-    → (31 - count_leading_zeros 32 w < 32) × (2 ^ (31 - count_leading_zeros 32 w) ≤ w) × (w < 2 ^ (31 - count_leading_zeros 32 w + 1))
-    × (count_leading_zeros 32 w ≤ 31)
-top-place w pos fits =
-    let t = leading_top 32 w pos fits in
-    let e : 31 - count_leading_zeros 32 w ≡ t.0 = omega (arith, t.1) in
-    let s : t.0 + 1 ≡ suc t.0 = omega arith in
-    (omega arith, rw e t.2, rw (e, s) t.3, omega (arith, t.1))
 
 low_bit : (w i : ℕ) → w < 2 ^ i → has_bit w i ≡ false
 unfolding has_bit
@@ -33,16 +22,8 @@ zero_bit : (i : ℕ) → has_bit 0 i ≡ false
 unfolding has_bit
 zero_bit i = simp zero-div
 
--- one word more that is 0
-pub zero-below : (m : List ℕ) (k : ℕ) → ClearFrom m k → get_or m (k - 1) 0 ≡ 0 → ClearFrom m (k - 1)
-zero-below m k none here i above below =
-    elim (dec_lt i k) [
-      | yes l ↦ let same : i ≡ k - 1 = omega arith in rw same here
-      | no l ↦ none i (omega arith) below
-    ]
-
 module _ (m : List ℕ) (size : length m ≡ 8) (k j : ℕ) (few : k < 8) (low : j < 32) (at_least_lem : 2 ^ j ≤ get_or m k 0)
-    (under : get_or m k 0 < 2 ^ (j + 1)) (above : ClearFrom m (k + 1)) where
+    (under : get_or m k 0 < 2 * 2 ^ j) (above : ClearFrom m (k + 1)) where
   abbrev w : ℕ
   w = get_or m k 0
 
@@ -56,7 +37,7 @@ module _ (m : List ℕ) (size : length m ≡ 8) (k j : ℕ) (few : k < 8) (low :
   whole = omega arith
 
   clear : has_bit rest j ≡ false
-  clear = low_bit rest j (omega (arith, pow-add 2 j 1))
+  clear = low_bit rest j (omega arith)
 
   set-bit : has_bit w j ≡ true
   set-bit = rw whole at (bit_added rest j clear)
@@ -76,11 +57,11 @@ module _ (m : List ℕ) (size : length m ≡ 8) (k j : ℕ) (few : k < 8) (low :
       elim (ℕ_discrete (i / 32) k) [
         | yes same ↦
             let higher : j + 1 ≤ i % 32 = omega arith in
-            rw same (low_bit w (i % 32) (omega (arith, pow_mono {i = j + 1} {j = i % 32} higher)))
+            rw same (low_bit w (i % 32) (omega (arith, pow-add 2 j 1, pow_mono {i = j + 1} {j = i % 32} higher)))
         | no other ↦ rw (above (i / 32) (omega arith) (omega arith)) (zero_bit (i % 32))
       ]
 
-  topped : Topped m (set m k rest) (suc n)
+  topped : Topped m (set m k rest) (Some n)
   unfolding bit_at
   topped =
       taken n (omega arith) (rw (word, place) set-bit) over
@@ -95,7 +76,7 @@ module _ (m : List ℕ) (size : length m ≡ 8) (k j : ℕ) (few : k < 8) (low :
       (length-set m k rest ∙ size)
       (λ i higher low. get_or-set_other m k i rest 0 (λ e. omega arith) ∙ above i (omega arith) low)
 
-pub none-topped : (m : List ℕ) → length m ≡ 8 → ClearFrom m 0 → Topped m m 0
+pub none-topped : (m : List ℕ) → length m ≡ 8 → ClearFrom m 0 → Topped m m None
 none-topped m size none =
     let zeros : m ≡ replicate 8 0 =
     ext_get_or 0 m (replicate 8 0) size
@@ -104,10 +85,10 @@ none-topped m size none =
 
 -- as the code has it
 pub top-answer : (m₀ m : List ℕ) (k j : ℕ) → m ≡ m₀ → length m₀ ≡ 8 → 0 < k → k ≤ 8 → j < 32
-    → 2 ^ j ≤ get_or m (k - 1) 0 → get_or m (k - 1) 0 < 2 ^ (j + 1) → ClearFrom m k
-    → Topped m₀ (set m (k - 1) (get_or m (k - 1) 0 - (1 * 2 ^ j) % 2 ^ 32)) (32 * (k - 1) + j + 1)
+    → 2 ^ j ≤ get_or m (k - 1) 0 → get_or m (k - 1) 0 < 2 * 2 ^ j → ClearFrom m k
+    → Topped m₀ (set m (k - 1) (get_or m (k - 1) 0 - (1 * 2 ^ j) % 2 ^ 32)) (Some (32 * (k - 1) + j))
 top-answer m₀ m k j e size pos few low at_least_lem under above =
-    rw (shifted j low, add-one (32 * (k - 1) + j), ← e)
+    rw (shifted j low, ← e)
     (topped m (ap length e ∙ size) (k - 1) j (omega arith) low at_least_lem under (λ i more inside. above i (omega arith) inside))
 
 -- a node above which nothing waits is the highest once it waits too
@@ -128,7 +109,7 @@ module _ (m : List ℕ) (n a : ℕ) (size : length m ≡ 8) (few : n < 256) (bel
         | no other ↦ rw (Clear-above (k / 32) (omega arith) (omega arith)) (zero_bit (k % 32))
       ]
 
-  pub next-top : Topped (with_bit m a) m (suc a)
+  pub next-top : Topped (with_bit m a) m (Some a)
   next-top =
       taken a (omega arith) (bit-same m a (omega (arith, size)))
       (λ k above inside. bit-other m a k (λ e. omega arith) ∙ free-from k (omega arith) inside)

@@ -14,13 +14,14 @@ use Rattle.rules.proofs.LeaveLaws.{counted_in}
 use Rattle.rules.proofs.LoopLaws.{in_counted, counted_append}
 use Rattle.rules.proofs.PartLaws.{tree_low}
 use Rattle.table.specs.declared.Header.{Header}
-use Rattle.table.specs.Roles.{role_of, is_part, field_parts}
+use Rattle.table.specs.declared.fields.Role.{Role}
+use Rattle.table.specs.Roles.{roles_of, is_part, field_parts}
 use Rattle.table.specs.Uses.{Fitting}
 use Rattle.table.proofs.FittingLaws.{part-below, fields_fit}
 use Rattle.table.proofs.RoleLaws.{parts_law}
 
 -- parts stand below their node
-in_field : (k role value : ℕ) → In k (field_parts role value) → (is_part role ≡ true) × (k ≡ value)
+in_field : (k : ℕ) (role : Role) (value : ℕ) → In k (field_parts role value) → (is_part role ≡ true) × (k ≡ value)
 unfolding field_parts
 in_field k role value h =
     ⊎_elim
@@ -35,9 +36,9 @@ module _ (table : List ℕ) (header : Header) (f : Fitting table header) where
   part_in_below n k l h =
       let m = node_at (decode table) n in
       let fit = fields_fit (decode table) n (f.fits n l) in
-      let fa = field_parts (role_of m.kind 100) m.a in
-      let fb = field_parts (role_of m.kind 10) m.b in
-      let fc = field_parts (role_of m.kind 1) m.c in
+      let fa = field_parts (roles_of m.kind).a m.a in
+      let fb = field_parts (roles_of m.kind).b m.b in
+      let fc = field_parts (roles_of m.kind).c m.c in
       let split : occurrences k (parts_at (decode table) n) ≡ occurrences k fa + (occurrences k fb + occurrences k fc) =
       ap (occurrences k) (parts_law (decode table) n)
       ∙ counted_append fa (fb ++ fc) k
@@ -45,15 +46,15 @@ module _ (table : List ℕ) (header : Header) (f : Fitting table header) where
       let some = in_counted (parts_at (decode table) n) k h in
       elim (dec_lt 0 (occurrences k fa)) [
         | yes in-a ↦
-            let here = in_field k (role_of m.kind 100) m.a (counted_in fa k (omega arith)) in
+            let here = in_field k (roles_of m.kind).a m.a (counted_in fa k (omega arith)) in
             omega (arith, here.1, part-below (decode table) n _ _ fit.0 here.0)
         | no not_a ↦
             elim (dec_lt 0 (occurrences k fb)) [
               | yes in_b ↦
-                  let here = in_field k (role_of m.kind 10) m.b (counted_in fb k (omega arith)) in
+                  let here = in_field k (roles_of m.kind).b m.b (counted_in fb k (omega arith)) in
                   omega (arith, here.1, part-below (decode table) n _ _ fit.1 here.0)
               | no not-b ↦
-                  let here = in_field k (role_of m.kind 1) m.c (counted_in fc k (omega arith)) in
+                  let here = in_field k (roles_of m.kind).c m.c (counted_in fc k (omega arith)) in
                   omega (arith, here.1, part-below (decode table) n _ _ fit.2 here.0)
             ]
       ]

@@ -4,6 +4,7 @@ use mathlib.Core.List.{List, [], ◌∷◌}
 use mathlib.Core.Logic.{inl, inr, ⊎_elim}
 use mathlib.Core.Path.{◌≡◌, refl}
 use Prim.Native.Nat.{ℕ, ◌*◌, ◌≤◌, ◌<◌}
+use native.Mathlib.Omega.{arith}
 use lib.ListN.{length}
 use borrow.Author.Tests.{lt-ltb, le-ltb}
 use Rattle.rules.specs.declared.Node.{Node}
@@ -24,9 +25,9 @@ pub inner_below : (table : List ℕ) (header : Header) → Fitting table header 
 inner_below table header f n a inside h = part_in_below table header f n a inside (inner_in (decode table) n a h)
 
 module _ (table : List ℕ) (n : ℕ) (m : Node) (read : m ≡ node_at (decode table) n) where
-  module _ (header : Header) (f : Fitting table header) (inside : n < nodes (decode table)) where
+  module _ (header : Header) (f : Fitting table header) (inside : n < header.nodes) where
     fits : {s : Statement} (a : ℕ) → statement_of m ≡ s → In a (inner_statements s) → a < n
-    fits a t h = inner_below table header f n a inside (rw (statement-here (decode table) n m read t) h)
+    fits a t h = inner_below table header f n a (omega (arith, f.sized.nodes-read)) (rw (statement-here (decode table) n m read t) h)
 
     pub sequence-fits : m.kind ≡ 18 → (m.a < n) × (m.b < n)
     unfolding inner_statements

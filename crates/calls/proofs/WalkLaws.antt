@@ -2,13 +2,13 @@
 use mathlib.Core.Bool.{true, false, cond, or-true}
 use mathlib.Core.List.{List, [], ◌∷◌}
 use mathlib.Core.Logic.{⊎_elim}
-use mathlib.Core.Path.{◌≡◌, refl, sym, ◌∙◌, ap}
+use mathlib.Core.Path.{◌≡◌, refl, sym, ◌∙◌}
 use Prim.Native.Nat.{ℕ, zero, suc, ◌+◌, ◌-◌, ◌/◌, ◌≤◌, ◌<◌}
 use native.Mathlib.Nat.{add-zero}
-use native.Mathlib.Numerals.{add-one}
 use native.Mathlib.Omega.{arith}
 use lib.ListN.{length, replicate, get_or-replicate}
 use lib.Seq.{get_or-set_other}
+use Rattle.std.proofs.Common.{Option, None, Some}
 use Rattle.rules.specs.Choice.{first_failing}
 use Rattle.rules.specs.Table.{Program, decode, nodes, body, statement_at}
 use Rattle.rules.specs.WellFormed.{in_tree}
@@ -49,7 +49,7 @@ waited-clear program m k a low clear =
     (bool_cases (may_call program a))
 
 -- the body alone is taken at once
-root-taken : (b : ℕ) → b < 256 → Topped (with_bit (replicate 8 0) b) (replicate 8 0) (suc b)
+root-taken : (b : ℕ) → b < 256 → Topped (with_bit (replicate 8 0) b) (replicate 8 0) (Some b)
 root-taken b low =
     taken b low (bit-same (replicate 8 0) b low)
     (λ k above inside. bit-other (replicate 8 0) b k (λ e. omega arith) ∙ bit-zero 8 k)
@@ -62,16 +62,25 @@ root-taken b low =
 abbrev Walked : Program → ℕ → ℕ → List ℕ → ℕ → Type 0
 Walked program p i m low = Wait program (body program p) i m × Found (own_calls program p) (nodes program) i low
 
--- from one that was taken to the next: what the loop keeps
-pub record Going (program : Program) (p next : ℕ) (m : List ℕ) (low : ℕ) : Type 0 where
-  pub before : List ℕ
-  pub walked : Walked program p next before low
-  pub topped : Topped before m next
-  pub high : next ≤ nodes program
+-- the nodes below which a node was taken: up to it, or none where none was
+abbrev pub above : Option ℕ → ℕ
+above None = 0
+above (Some n) = n + 1
 
-pub topped-length : {before after : List ℕ} {next : ℕ} → Topped before after next → length after ≡ 8
-topped-length (empty e g) = ap length g
-topped-length (taken n low marked over gone same size clear) = size
+-- from one that was taken to the next: what the loop keeps
+pub record Going (program : Program) (p : ℕ) (next : Option ℕ) (m : List ℕ) (low : ℕ) : Type 0 where
+  pub before : List ℕ
+  pub walked : Walked program p (above next) before low
+  pub topped : Topped before m next
+  pub high : above next ≤ nodes program
+
+-- a procedure's body is a node
+pub body-inside : (table : List ℕ) (header : Header) → Fitting table header → (p : ℕ) → p < header.procedures
+    → body (decode table) p < nodes (decode table)
+body-inside table header f p low = f.bodies p (omega (arith, f.sized.procedures-read))
+
+emptied : {before after : List ℕ} → Topped before after None → after ≡ replicate 8 0
+emptied (empty was is) = is
 
 module _ (table : List ℕ) (header : Header) (f : Fitting table header) (p : ℕ) (l : body (decode table) p < nodes (decode table)) where
   abbrev root : ℕ
@@ -134,69 +143,52 @@ module _ (table : List ℕ) (header : Header) (f : Fitting table header) (p : �
   walked_start : Walked (decode table) p (nodes (decode table)) (with_bit (replicate 8 0) root) (nodes (decode table))
   walked_start = (wait_start table header f root l, found_none (own_calls (decode table) p) (nodes (decode table)))
 
-  topped-below : {before after : List ℕ} {next : ℕ} → Topped before after next → (k : ℕ) → next ≤ k → k < 256
+  topped-below : {before after : List ℕ} {next : Option ℕ} → Topped before after next → (k : ℕ) → above next ≤ k → k < 256
       → bit_at before k ≡ false
-  topped-below (empty e g) k above low = rw e (bit-zero 8 k)
-  topped-below (taken n low' marked over gone same size clear) k above low = over k (omega arith) low
+  topped-below (empty e g) k past low = rw e (bit-zero 8 k)
+  topped-below (taken n low' marked over gone same size clear) k past low = over k (omega arith) low
 
-  topped-high : {before after : List ℕ} {next : ℕ} (i : ℕ) → Topped before after next
-      → ((k : ℕ) → k < 256 → bit_at before k ≡ true → k < i) → next ≤ i
+  topped-high : {before after : List ℕ} {next : Option ℕ} (i : ℕ) → Topped before after next
+      → ((k : ℕ) → k < 256 → bit_at before k ≡ true → k < i) → above next ≤ i
   topped-high i (empty e g) h = omega arith
   topped-high i (taken n low marked over gone same size clear) h = omega (arith, h n low marked)
 
-  going : (i : ℕ) (m : List ℕ) (low : ℕ) → i ≤ nodes (decode table) → Walked (decode table) p i m low → (after : List ℕ) (next : ℕ)
-      → Topped m after next → (Going (decode table) p next after low) × (next ≤ i)
+  going : (i : ℕ) (m : List ℕ) (low : ℕ) → i ≤ nodes (decode table) → Walked (decode table) p i m low → (after : List ℕ)
+      (next : Option ℕ) → Topped m after next → (Going (decode table) p next after low) × (above next ≤ i)
   going i m low under w after next t =
-      let high : next ≤ i = topped-high i t (λ k low e. (w.0.sound k low e).1) in
-      let gap : next + (i - next) ≡ i = omega arith in (
+      let high : above next ≤ i = topped-high i t (λ k low e. (w.0.sound k low e).1) in
+      let gap : above next + (i - above next) ≡ i = omega arith in (
         record {
           before = m;
-          walked = walked_jump (i - next) next m low (omega arith) (rw gap w)
-              (λ k above below. topped-below t k above (omega (arith, f.sized.nodes-high)));
+          walked = walked_jump (i - above next) (above next) m low (omega arith) (rw gap w)
+              (λ k past below. topped-below t k past (omega (arith, f.sized.nodes-high)));
           topped = t;
           high = omega arith;
         },
         high,
       )
 
+  visited : {n : ℕ} {before m : List ℕ} (low : ℕ) → Topped before m (Some n) → n + 1 ≤ nodes (decode table)
+      → Walked (decode table) p (n + 1) before low → Walked (decode table) p n (leaves (decode table) n m) (answers (decode table) p n low)
+  visited low (taken n few marked over gone same size clear) high w =
+      walked-taken n (omega arith) _ low w _ size marked gone same
+
   pub going_start : (m : List ℕ) (r count : ℕ) → m ≡ replicate 8 0 → r ≡ root → count ≡ nodes (decode table)
-      → Going (decode table) p (r + 1) m count
+      → Going (decode table) p (Some r) m count
   going_start m r count none at-root counted =
       let t = root-taken root (omega (arith, f.sized.nodes-high)) in
-      rw (none, at-root, counted, add-one root)
+      rw (none, at-root, counted)
       (going (nodes (decode table)) (with_bit (replicate 8 0) root) (nodes (decode table)) (omega arith) walked_start _ _ t).0
 
-  visited : (next low : ℕ) (before m : List ℕ) → Topped before m next → next ≤ nodes (decode table) → 0 < next
-      → Walked (decode table) p next before low → Walked (decode table) p (next - 1) (leaves (decode table) (next - 1) m) (answers (decode table) p (next - 1) low)
-  visited next low before m (empty e g) high pos w = absurd (omega arith)
-  visited next low before m (taken n low' marked over gone same size clear) high pos w =
-      let e : suc n - 1 ≡ n = omega arith in
-      let s : suc n ≡ n + 1 = omega arith in
-      rw e (walked-taken n (omega arith) before low (rw s at w) m size marked gone same)
-
-  topped-clear : (next : ℕ) (earlier m : List ℕ) → Topped earlier m next → 0 < next → ClearFrom m ((next - 1) / 32 + 1)
-  topped-clear next earlier m (empty e g) pos = absurd (omega arith)
-  topped-clear next earlier m (taken n low marked over gone same size clear) pos =
-      let e : suc n - 1 ≡ n = omega arith in rw e clear
-
-  module _ (next low : ℕ) (m : List ℕ) (g : Going (decode table) p next m low) (pos : 0 < next) where
-    -- the next to be taken lies in no higher word
-    pub going-clear : ClearFrom m ((next - 1) / 32 + 1)
-    going-clear = topped-clear next g.before m g.topped pos
-
-    pub going_next : (low' next' : ℕ) (after : List ℕ) → low' ≡ answers (decode table) p (next - 1) low
-        → Topped (leaves (decode table) (next - 1) m) after next'
-        → (Going (decode table) p next' after low') × (next' ≤ next - 1)
-    going_next low' next' after answer t =
-        let w = visited next low g.before m g.topped g.high pos g.walked in
+  -- one turn, at a node that was taken
+  module _ (n low : ℕ) (m : List ℕ) (g : Going (decode table) p (Some n) m low) where
+    pub going_next : (low' : ℕ) (next : Option ℕ) (after : List ℕ) → low' ≡ answers (decode table) p n low
+        → Topped (leaves (decode table) n m) after next → (Going (decode table) p next after low') × (above next ≤ n)
+    going_next low' next after answer t =
         rw answer
-        (going (next - 1) (leaves (decode table) (next - 1) m) (answers (decode table) p (next - 1) low) (omega (arith, g.high)) w after next' t)
+        (going n (leaves (decode table) n m) (answers (decode table) p n low) (omega (arith, g.high))
+        (visited low g.topped g.high g.walked) after next t)
 
-emptied : (before m : List ℕ) (next : ℕ) → next ≡ 0 → Topped before m next → m ≡ replicate 8 0
-emptied before m next e (empty was is) = is
-emptied before m next e (taken n low marked over gone same size clear) = absurd (omega arith)
-
-pub going_end : (program : Program) (p next : ℕ) (m : List ℕ) (low : ℕ) → Going program p next m low → next ≡ 0
+pub going_end : (program : Program) (p : ℕ) (m : List ℕ) (low : ℕ) → Going program p None m low
     → (low ≡ first_failing (own_calls program p) (nodes program)) × (m ≡ replicate 8 0)
-going_end program p next m low g e =
-    (found_first (own_calls program p) (nodes program) low (rw e at g.walked.1), emptied g.before m next e g.topped)
+going_end program p m low g = (found_first (own_calls program p) (nodes program) low g.walked.1, emptied g.topped)

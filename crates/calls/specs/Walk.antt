@@ -1,5 +1,5 @@
 -- The walk from a body down: marks of the statements that wait, of which the highest is taken first.
-use Rattle.std.specs.Prelude.{Bool, true, false, cond, not, ◌&&◌, ◌||◌, List, [], ◌∷◌, ◌≡◌, ℕ, suc, ◌+◌, ◌/◌, ◌≤◌, ◌<◌, leb, ltb, length, get_or, replicate}
+use Rattle.std.specs.Prelude.{Bool, true, false, cond, not, ◌&&◌, ◌||◌, List, [], ◌∷◌, ◌≡◌, ℕ, Option, None, Some, ◌+◌, ◌/◌, ◌≤◌, ◌<◌, leb, ltb, length, get_or, replicate}
 use Rattle.rules.specs.Table.{Program, Statement, nothing, assign, sequence, branch, loop, call, latch, collective, leave}
 use Rattle.rules.specs.Table.{body, node_at, statement_at}
 use Rattle.rules.specs.WellFormed.{in_tree}
@@ -50,9 +50,9 @@ own_calls program p n = not (in_tree program n (body program p)) || calls_below 
 abbrev pub ClearFrom : List ℕ → ℕ → Type 0
 ClearFrom marks k = (i : ℕ) → k ≤ i → i < 8 → get_or marks i 0 ≡ 0
 
--- the highest node taken out of the marks: one more than its number, or 0 if there was none
-pub data Topped (before after : List ℕ) : ℕ → Type 0 where
-  empty : before ≡ replicate 8 0 → after ≡ replicate 8 0 → Topped before after 0
+-- the highest node taken out of the marks, if there was one
+pub data Topped (before after : List ℕ) : Option ℕ → Type 0 where
+  empty : before ≡ replicate 8 0 → after ≡ replicate 8 0 → Topped before after None
   taken : (n : ℕ) → n < 256 → bit_at before n ≡ true → ((k : ℕ) → n < k → k < 256 → bit_at before k ≡ false)
       → bit_at after n ≡ false → ((k : ℕ) → (k ≡ n → ⊥) → bit_at after k ≡ bit_at before k) → length after ≡ 8
-      → ClearFrom after (n / 32 + 1) → Topped before after (suc n)
+      → ClearFrom after (n / 32 + 1) → Topped before after (Some n)

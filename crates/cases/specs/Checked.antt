@@ -1,8 +1,7 @@
 -- What the checker answers.
 use Rattle.std.specs.Prelude.{List, [], ◌∷◌, ◌++◌, ◌≡◌, refl, ℕ, zero, suc, ◌+◌, ◌*◌, ◌^◌, replicate, set}
-use Rattle.rules.specs.declared.Verdict.TheVariants.{Accepted}
+use Rattle.rules.specs.Answers.{Accepted, refused}
 use Rattle.rules.specs.Acceptance.{checked, checked_scratch}
-use Rattle.rules.specs.Answers.{refused}
 use Rattle.rules.specs.Cases.{opened, bytes, verdict, t1, t2, rosters, stocktake, switched_off}
 use Rattle.rules.specs.Judgement.{fixing, fixed, unfixed}
 use Rattle.rules.specs.Table.{decode}

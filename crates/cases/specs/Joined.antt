@@ -1,11 +1,9 @@
 -- What joining a library answers and writes.
-use Rattle.std.specs.Prelude.{List, [], ◌∷◌, ◌≡◌, refl, ℕ, replicate, set, take}
-use Rattle.linker.specs.declared.Link.{Link}
-use Rattle.linker.specs.declared.Link.TheVariants.{Joined, OfLibrary, OfProgram}
+use Rattle.std.specs.Prelude.{List, [], ◌∷◌, ◌≡◌, refl, ℕ, replicate, set, take, Err}
+use Rattle.linker.specs.declared.LinkRefusal.TheVariants.{OfLibrary, OfProgram}
+use Rattle.linker.specs.Linking.{Link, Joined, question29, link_answer, link_output, joined_length}
 use Rattle.linker.specs.Linking
-use Rattle.linker.specs.Linking.{question29, link_answer, link_output, joined_length}
-use Rattle.rules.specs.declared.Verdict.TheVariants.{Accepted}
-use Rattle.rules.specs.Answers.{refused}
+use Rattle.rules.specs.Answers.{Accepted, refused}
 use Rattle.rules.specs.Cases.{opened, bytes, verdict, t1, t2}
 use Rattle.rules.specs.Encoding
 use Rattle.rules.specs.Table.{decode}
@@ -41,7 +39,7 @@ link library program size =
 
 -- a refusal of the program that leaves the output
 left : ℕ → ℕ → ℕ → Link × List ℕ
-left number place size = (OfProgram (record { number = number; place = place }), replicate size 7)
+left number place size = (Err (OfProgram (record { number = number; place = place })), replicate size 7)
 
 joined-whole : link one-barrier calling 40 ≡ (Joined, bytes barrier-called)
 unfolding joining link one-barrier calling barrier-called
@@ -87,7 +85,7 @@ unfolding joining link left one-barrier calling
 output_short = refl
 
 -- a library that is cut short, and a program
-library_cut : link (take 5 one-barrier) calling 40 ≡ (OfLibrary (record { number = 4; place = 0 }), replicate 40 7)
+library_cut : link (take 5 one-barrier) calling 40 ≡ (Err (OfLibrary (record { number = 4; place = 0 })), replicate 40 7)
 unfolding joining link one-barrier calling
 library_cut = refl
 

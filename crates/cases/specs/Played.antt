@@ -1,10 +1,8 @@
 -- What runs do, and steps of made-up states.
-use Rattle.std.specs.Prelude.{List, [], ◌∷◌, ◌++◌, ◌≡◌, refl, ℕ, ◌-◌, replicate, set, take, drop}
+use Rattle.std.specs.Prelude.{List, [], ◌∷◌, ◌++◌, ◌≡◌, refl, ℕ, ◌-◌, replicate, set, take, drop, Err}
 use Rattle.rules.specs.declared.Event.TheVariants.{Moved, Finished, Arrived, Waiting, Ended}
-use Rattle.rules.specs.declared.Stepped.TheVariants.{Refused}
+use Rattle.rules.specs.Answers.{Accepted, refused}
 use Rattle.rules.specs.declared.TeamStatus.TheVariants.{Going, Done, Deadlocked}
-use Rattle.rules.specs.declared.Verdict.TheVariants.{Accepted}
-use Rattle.rules.specs.Answers.{refused}
 use Rattle.rules.specs.Cases.{opened, bytes, verdict, start_on, run, answer, t1, zeros}
 use Rattle.rules.specs.Cases.{broadcast-table, sent, rosters, gathered-by, stocktake}
 use Rattle.rules.specs.Order.{worked_turns}
@@ -28,7 +26,7 @@ other-turns = 1 ∷ 1 ∷ 1 ∷ 0 ∷ 9 ∷ 0 ∷ 0 ∷ []
 
 t1_in_another_order : run t1 2 (zeros 2) other-turns
     ≡ answer Moved Going ∷ answer (Arrived 1) Going ∷ answer Waiting Going ∷ answer Moved Going
-    ∷ Refused (record { number = 22; place = 9 }) ∷ answer Finished Deadlocked ∷ answer Ended Deadlocked ∷ []
+    ∷ Err (record { number = 22; place = 9 }) ∷ answer Finished Deadlocked ∷ answer Ended Deadlocked ∷ []
 unfolding opened zeros t1 other-turns
 t1_in_another_order = refl
 

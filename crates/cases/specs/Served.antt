@@ -1,8 +1,6 @@
 -- What calls that serve answer, and whom they choose.
 use Rattle.std.specs.Prelude.{List, [], ◌∷◌, ◌++◌, ◌≡◌, refl, ℕ, ◌-◌, ◌*◌, replicate, take}
-use Rattle.rules.specs.declared.Verdict.{Verdict}
-use Rattle.rules.specs.declared.Verdict.TheVariants.{Accepted}
-use Rattle.rules.specs.Answers.{refused}
+use Rattle.rules.specs.Answers.{Verdict, Accepted, refused}
 use Rattle.rules.specs.Arrivals.{arrival_size}
 use Rattle.rules.specs.Cases.{opened, bytes, t1, t2, zeros, stocktake, serve, order}
 use Rattle.rules.specs.Process.{depth_at, stack_places}

@@ -3,7 +3,6 @@
 
 use checker::check;
 use input::read_full;
-use rules::Verdict;
 use rules::layout::{MOST_TABLE_BYTES, SCRATCH_WORDS};
 use std::io;
 
@@ -15,7 +14,7 @@ fn main(rt: HostRuntime) -> io::Result<()> {
     let mut scratch = [0u32; SCRATCH_WORDS];
     let n = read_full(&mut rt.stdin(), &mut input)?;
     match check(&input[..n], &mut scratch) {
-        Verdict::Accepted => report::accepted(&rt),
-        Verdict::Refused(refusal) => report::refusal(&rt, refusal),
+        Ok(()) => report::accepted(&rt),
+        Err(refusal) => report::refusal(&rt, refusal),
     }
 }

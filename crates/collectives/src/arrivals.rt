@@ -1,6 +1,6 @@
 // The arrivals (the paper's roll) on plain words, four a record; the status of the team.
 ghost use Rattle.std.specs.Prelude.{not, ◌≡◌, ◌+◌, ◌*◌, ◌<◌, ◌≤◌, eqb, length};
-ghost use Rattle.rules.specs.Arrivals.{arrival_size, running, ended, status_number, status_at, arrival_node, arrival_value, arrival_source, with_arrival, team_status, all_at_one_node};
+ghost use Rattle.rules.specs.Arrivals.{arrival_size, running, ended, status_at, arrival_node, arrival_value, arrival_source, with_arrival, team_status, all_at_one_node};
 ghost use Rattle.rules.specs.Choice.{all_below};
 ghost use Rattle.collectives.specs.Given.{status_of, arrival_at};
 
@@ -12,54 +12,37 @@ pub fn status_at(roll: &[u32], p: usize) -> u32
     requires { arrival_size * p + 3 < length roll.now }
     ensures { result ≡ status_at roll.now p }
 {
-    let at = ARRIVAL_WORDS * p;
-    roll[at]
+    roll[ARRIVAL_WORDS * p]
 }
 
 pub fn node_of(roll: &[u32], p: usize) -> u32
     requires { arrival_size * p + 3 < length roll.now }
     ensures { result ≡ arrival_node roll.now p }
 {
-    let at = ARRIVAL_WORDS * p + 1;
-    roll[at]
+    roll[ARRIVAL_WORDS * p + 1]
 }
 
 pub fn value_of(roll: &[u32], p: usize) -> u32
     requires { arrival_size * p + 3 < length roll.now }
     ensures { result ≡ arrival_value roll.now p }
 {
-    let at = ARRIVAL_WORDS * p + 2;
-    roll[at]
+    roll[ARRIVAL_WORDS * p + 2]
 }
 
 pub fn source_of(roll: &[u32], p: usize) -> u32
     requires { arrival_size * p + 3 < length roll.now }
     ensures { result ≡ arrival_source roll.now p }
 {
-    let at = ARRIVAL_WORDS * p + 3;
-    roll[at]
+    roll[ARRIVAL_WORDS * p + 3]
 }
 
 fn status_of(word: u32) -> Status
     ensures { result ≡ status_of word }
 {
-    if word == RUNNING {
-        return Status::Running;
-    }
-    if word == WAITING {
-        Status::Waiting
-    } else {
-        Status::Ended
-    }
-}
-
-fn status_number(status: Status) -> u32
-    ensures { result ≡ status_number status }
-{
-    match status {
-        Status::Running => RUNNING,
-        Status::Waiting => WAITING,
-        Status::Ended => ENDED,
+    match word {
+        RUNNING => Status::Running,
+        WAITING => Status::Waiting,
+        _ => Status::Ended,
     }
 }
 
@@ -67,9 +50,8 @@ pub fn read(roll: &[u32], p: usize) -> Arrival
     requires { arrival_size * p + 3 < length roll.now }
     ensures { result ≡ arrival_at roll.now p }
 {
-    let status = status_of(status_at(roll, p));
     Arrival {
-        status,
+        status: status_of(status_at(roll, p)),
         node: node_of(roll, p),
         value: value_of(roll, p),
         source: source_of(roll, p),
@@ -81,8 +63,7 @@ pub fn write(roll: &mut [u32], p: usize, arrival: Arrival)
     ensures { roll.new ≡ with_arrival roll.old p arrival }
 {
     let at = ARRIVAL_WORDS * p;
-    let status = arrival.status;
-    roll[at] = status_number(status);
+    roll[at] = u32::from(arrival.status);
     roll[at + 1] = arrival.node;
     roll[at + 2] = arrival.value;
     roll[at + 3] = arrival.source;
@@ -93,9 +74,7 @@ fn none_runs(roll: &[u32], count: usize) -> bool
     requires { length roll.now ≡ arrival_size * count }
     ensures { result ≡ all_below (λ p. not (eqb (status_at roll.now p) running)) count }
 {
-    let mut p = count;
-    while 0 < p {
-        p -= 1;
+    for p in (0..count).rev() {
         if status_at(roll, p) == RUNNING {
             return false;
         }
@@ -107,12 +86,10 @@ fn all_ended(roll: &[u32], count: usize) -> bool
     requires { length roll.now ≡ arrival_size * count }
     ensures { result ≡ all_below (λ p. eqb (status_at roll.now p) ended) count }
 {
-    let mut p = 0;
-    while p < count {
+    for p in 0..count {
         if status_at(roll, p) != ENDED {
             return false;
         }
-        p += 1;
     }
     true
 }
@@ -137,13 +114,8 @@ pub fn all_at_one_node(roll: &[u32], count: usize) -> bool
     ensures { result ≡ all_at_one_node roll.now count }
 {
     let node = node_of(roll, 0);
-    let mut p = count;
-    while 0 < p {
-        p -= 1;
-        if status_at(roll, p) != WAITING {
-            return false;
-        }
-        if node_of(roll, p) != node {
+    for p in (0..count).rev() {
+        if status_at(roll, p) != WAITING || node_of(roll, p) != node {
             return false;
         }
     }

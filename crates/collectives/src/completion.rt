@@ -32,11 +32,10 @@ pub fn arrival_of(
         (top words.now) (collective_of node) }
 {
     let n = top(words);
-    let kind = node.kind;
-    if kind == BARRIER {
+    if node.kind == BARRIER {
         return arrival.arrive(n, 0, 0);
     }
-    if kind == EXCHANGE {
+    if node.kind == EXCHANGE {
         let value = value_at(table, header, words, own, count, node.a as usize);
         return arrival.arrive(n, value, 0);
     }
@@ -51,11 +50,9 @@ fn gather(words: &mut [u32], roll: &[u32], count: usize, area: usize)
         × (count ≤ most_processes) × (area < gathered_areas) }
     ensures { words.new ≡ gathered_from roll.now area count words.old }
 {
-    let mut i = 0;
-    while i < count {
+    for i in 0..count {
         let at = slot_at(area, i);
         words[at] = value_of(roll, i);
-        i += 1;
     }
 }
 
@@ -65,9 +62,10 @@ fn sent_by(roll: &[u32], count: usize, source: usize) -> u32
     ensures { result ≡ sent_by roll.now count source }
 {
     if source < count {
-        return value_of(roll, source);
+        value_of(roll, source)
+    } else {
+        0
     }
-    0
 }
 
 // "A broadcast gives each bank the value of the bank whose number is its own source"
@@ -75,15 +73,13 @@ fn receive(words: &mut [u32], roll: &[u32], count: usize, node: Node, p: usize)
     requires { AtCollective roll.now count node × (length words.old ≡ process_words) × (p < count) }
     ensures { words.new ≡ received roll.now count (collective_of node) p words.old }
 {
-    let kind = node.kind;
-    if kind == EXCHANGE {
-        gather(words, roll, count, node.b as usize);
-        return;
-    }
-    if kind == BROADCAST {
-        let source = source_of(roll, p) as usize;
-        let a = node.a as usize;
-        words[a] = sent_by(roll, count, source);
+    match node.kind {
+        EXCHANGE => gather(words, roll, count, node.b as usize),
+        BROADCAST => {
+            let source = source_of(roll, p) as usize;
+            words[node.a as usize] = sent_by(roll, count, source);
+        }
+        _ => {}
     }
 }
 
@@ -101,12 +97,10 @@ pub fn complete(state: &mut [u32], roll: &[u32], count: usize, node: Node)
     requires by_index { (p : ℕ) → p < count → Stacked (process_at state.old p) }
     ensures { state.new ≡ completed_state roll.now count (collective_of node) state.old }
 {
-    let mut p = 0;
-    while p < count {
+    for p in 0..count {
         let at = PROCESS_WORDS * p;
         let end = at + PROCESS_WORDS;
         complete_one(&mut state[at..end], roll, count, node, p);
-        p += 1;
     }
 }
 
@@ -128,10 +122,8 @@ pub fn release(state: &[u32], roll: &mut [u32], count: usize)
     requires by_index { (p : ℕ) → p < count → status_at roll.old p ≡ waiting }
     ensures { roll.new ≡ released_roll state.now count roll.old }
 {
-    let mut p = 0;
-    while p < count {
+    for p in 0..count {
         let at = PROCESS_WORDS * p + DEPTH_AT;
         release_one(roll, p, state[at]);
-        p += 1;
     }
 }

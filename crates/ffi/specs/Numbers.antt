@@ -1,12 +1,8 @@
 -- Answers as numbers, for callers in other languages.
-use Rattle.std.specs.Prelude.{List, ◌++◌, ◌≡◌, ℕ, ◌+◌, ◌*◌, ◌^◌, min, length, take, drop}
-use Rattle.linker.specs.declared.Link.{Link}
-use Rattle.linker.specs.declared.Link.TheVariants.{Joined, OfLibrary, OfProgram}
-use Rattle.rules.specs.Answers.{event_number, event_node, team_number}
-use Rattle.rules.specs.declared.Stepped.{Stepped}
-use Rattle.rules.specs.declared.Stepped.TheVariants.{Taken, Refused}
-use Rattle.rules.specs.declared.Verdict.{Verdict}
-use Rattle.rules.specs.declared.Verdict.TheVariants.{Accepted, Refused as Failed}
+use Rattle.std.specs.Prelude.{List, ◌++◌, ◌≡◌, ℕ, ◌+◌, ◌*◌, ◌^◌, min, length, take, drop, Ok, Err}
+use Rattle.linker.specs.declared.LinkRefusal.TheVariants.{OfLibrary, OfProgram}
+use Rattle.linker.specs.Linking.{Link}
+use Rattle.rules.specs.Answers.{event_number, event_node, team_number, Verdict, Stepped}
 use Rattle.rules.specs.Scheduling.{Served}
 use Rattle.rules.specs.Start.{Started}
 use Rattle.rules.specs.Step.{Outcome}
@@ -16,12 +12,12 @@ use Rattle.ffi.specs.declared.FcStep.{FcStep}
 
 -- 0 for accepted, otherwise number × 2^32 + place
 abbrev pub verdict_number : Verdict → ℕ
-verdict_number Accepted = 0
-verdict_number (Failed r) = r.number * 2 ^ 32 + r.place
+verdict_number (Ok _) = 0
+verdict_number (Err r) = r.number * 2 ^ 32 + r.place
 
 -- number 0 for a step that was taken
 abbrev pub step_numbers : Stepped → FcStep
-step_numbers (Taken answer) =
+step_numbers (Ok answer) =
     record {
       number = 0;
       place = 0;
@@ -29,7 +25,7 @@ step_numbers (Taken answer) =
       node = event_node answer.event;
       site = team_number answer.team;
     }
-step_numbers (Refused r) = record { number = r.number; place = r.place; event = 0; node = 0; site = 0 }
+step_numbers (Err r) = record { number = r.number; place = r.place; event = 0; node = 0; site = 0 }
 
 -- a start's number, and the state and the roll after it
 pub record StartNumbers (outcome : Started) (number : ℕ) (state roll : List ℕ) : Type 0 where
@@ -45,8 +41,8 @@ pub record StepNumbers (outcome : Outcome) (numbers : FcStep) (state roll : List
 
 -- number 0 for a call to which no refusal was added
 abbrev pub refusal_numbers : ℕ → ℕ → Verdict → FcServe
-refusal_numbers made last Accepted = record { made = made; last = last; number = 0; place = 0 }
-refusal_numbers made last (Failed r) = record { made = made; last = last; number = r.number; place = r.place }
+refusal_numbers made last (Ok _) = record { made = made; last = last; number = 0; place = 0 }
+refusal_numbers made last (Err r) = record { made = made; last = last; number = r.number; place = r.place }
 
 -- a call's numbers, and the state and the roll after it
 pub record ServeNumbers (end : Served) (numbers : FcServe) (state roll : List ℕ) : Type 0 where
@@ -56,9 +52,9 @@ pub record ServeNumbers (end : Served) (numbers : FcServe) (state roll : List �
 
 -- number 0 for a joined table; a refusal says which table, 0 for the library and 1 for the program
 abbrev pub link_numbers : Link → FcLink
-link_numbers Joined = record { number = 0; place = 0; table = 0 }
-link_numbers (OfLibrary r) = record { number = r.number; place = r.place; table = 0 }
-link_numbers (OfProgram r) = record { number = r.number; place = r.place; table = 1 }
+link_numbers (Ok _) = record { number = 0; place = 0; table = 0 }
+link_numbers (Err (OfLibrary r)) = record { number = r.number; place = r.place; table = 0 }
+link_numbers (Err (OfProgram r)) = record { number = r.number; place = r.place; table = 1 }
 
 -- how many of the words fit the place lent for them, and that place after the copy
 abbrev pub copied_count : List ℕ → List ℕ → ℕ

@@ -2,10 +2,9 @@
 // asks for nothing of its caller: what it answers, and what every lent word then holds, are equations with the rules.
 #![tactic(auto)]
 
-ghost use Rattle.std.specs.Prelude.{◌≡◌, ◌++◌, ◌≤◌, length, take, drop};
+ghost use Rattle.std.specs.Prelude.{◌≡◌};
 ghost use Rattle.linker.specs.Linking.{link_answer, link_output, joined_length};
 ghost use Rattle.rules.specs.Acceptance.{checked, checked_scratch};
-ghost use Rattle.rules.specs.Answers.{event_number, team_number};
 ghost use Rattle.rules.specs.Scheduling.{served};
 ghost use Rattle.rules.specs.Start.{started, latches_of};
 ghost use Rattle.rules.specs.Step.{stepped};
@@ -13,10 +12,9 @@ ghost use Rattle.ffi.specs.Numbers.{verdict_number, step_numbers, refusal_number
 ghost use Rattle.ffi.specs.Numbers.{StartNumbers, StepNumbers, ServeNumbers};
 
 use checker::check;
-use linker::{Link, joined_length, link_tables};
+use linker::{Link, LinkRefusal, joined_length, link_tables};
 use machine::team;
-use rules::layout::lesser;
-use rules::{Event, Stepped, TeamStatus, Verdict};
+use rules::{Stepped, Verdict};
 use scheduler::{Service, serve};
 
 // A step's answer in numbers. `number` 0: the step was taken.
@@ -53,111 +51,78 @@ fn verdict_number(verdict: Verdict) -> u64
     ensures { result ≡ verdict_number verdict }
 {
     match verdict {
-        Verdict::Accepted => 0,
-        Verdict::Refused(refusal) => refusal.number as u64 * 4294967296 + refusal.place as u64,
+        Ok(()) => 0,
+        Err(refusal) => refusal.number as u64 * 4294967296 + refusal.place as u64,
     }
 }
 
-fn event_number(event: Event) -> u32
-    ensures { result ≡ event_number event }
-{
-    match event {
-        Event::Moved => 0,
-        Event::Finished => 1,
-        Event::Arrived(_) => 2,
-        Event::Completed(_) => 3,
-        Event::Waiting => 4,
-        Event::Ended => 5,
-    }
-}
+impl From<Stepped> for FcStep {
+    ghost from_gives = { λ stepped numbers. numbers ≡ step_numbers stepped };
 
-fn team_number(team: TeamStatus) -> u32
-    ensures { result ≡ team_number team }
-{
-    match team {
-        TeamStatus::Going => 0,
-        TeamStatus::Done => 1,
-        TeamStatus::Deadlocked => 2,
-    }
-}
-
-fn step_numbers(stepped: Stepped) -> FcStep
-    ensures { result ≡ step_numbers stepped }
-{
-    match stepped {
-        Stepped::Taken(answer) => {
-            let event = answer.event;
-            let team = answer.team;
-            FcStep {
+    fn from(stepped: Stepped) -> FcStep {
+        match stepped {
+            Ok(answer) => FcStep {
                 number: 0,
                 place: 0,
-                event: event_number(event),
-                node: event.node(),
-                site: team_number(team),
-            }
+                event: u32::from(answer.event),
+                node: answer.event.node(),
+                site: u32::from(answer.team),
+            },
+            Err(refusal) => FcStep {
+                number: refusal.number,
+                place: refusal.place,
+                event: 0,
+                node: 0,
+                site: 0,
+            },
         }
-        Stepped::Refused(refusal) => FcStep {
-            number: refusal.number,
-            place: refusal.place,
-            event: 0,
-            node: 0,
-            site: 0,
-        },
     }
 }
 
-fn serve_numbers(service: Service) -> FcServe
-    ensures { result ≡ refusal_numbers service.made service.last service.answer }
-{
-    let made = service.made;
-    let last = service.last;
-    let answer = service.answer;
-    match answer {
-        Verdict::Accepted => FcServe {
-            made,
-            last,
-            number: 0,
-            place: 0,
-        },
-        Verdict::Refused(added) => FcServe {
-            made,
-            last,
-            number: added.number,
-            place: added.place,
-        },
+impl From<Service> for FcServe {
+    ghost from_gives = { λ service numbers. numbers ≡ refusal_numbers service.made service.last service.answer };
+
+    fn from(service: Service) -> FcServe {
+        let made = service.made;
+        let last = service.last;
+        match service.answer {
+            Ok(()) => FcServe {
+                made,
+                last,
+                number: 0,
+                place: 0,
+            },
+            Err(added) => FcServe {
+                made,
+                last,
+                number: added.number,
+                place: added.place,
+            },
+        }
     }
 }
 
-fn link_numbers(link: Link) -> FcLink
-    ensures { result ≡ link_numbers link }
-{
-    match link {
-        Link::Joined => FcLink {
-            number: 0,
-            place: 0,
-            table: 0,
-        },
-        Link::OfLibrary(refusal) => FcLink {
-            number: refusal.number,
-            place: refusal.place,
-            table: 0,
-        },
-        Link::OfProgram(refusal) => FcLink {
-            number: refusal.number,
-            place: refusal.place,
-            table: 1,
-        },
-    }
-}
+impl From<Link> for FcLink {
+    ghost from_gives = { λ link numbers. numbers ≡ link_numbers link };
 
-fn copy_first(words: &[u32], out: &mut [u32], n: usize)
-    requires { (n ≤ length words.now) × (n ≤ length out.old) }
-    ensures { out.new ≡ take n words.now ++ drop n out.old }
-{
-    let mut i = 0;
-    while i < n {
-        out[i] = words[i];
-        i += 1;
+    fn from(link: Link) -> FcLink {
+        match link {
+            Ok(()) => FcLink {
+                number: 0,
+                place: 0,
+                table: 0,
+            },
+            Err(LinkRefusal::OfLibrary(refusal)) => FcLink {
+                number: refusal.number,
+                place: refusal.place,
+                table: 0,
+            },
+            Err(LinkRefusal::OfProgram(refusal)) => FcLink {
+                number: refusal.number,
+                place: refusal.place,
+                table: 1,
+            },
+        }
     }
 }
 
@@ -192,7 +157,7 @@ pub extern "C" fn fc_step(table: &[u8], state: &mut [u32], roll: &mut [u32], pro
     ensures { StepNumbers (stepped table.now state.old roll.old process)
         result state.new roll.new }
 {
-    step_numbers(team::step(table, state, roll, process))
+    FcStep::from(team::step(table, state, roll, process))
 }
 
 // So many turns, round robin, after the process served last.
@@ -207,7 +172,7 @@ pub extern "C" fn fc_serve(
     ensures { ServeNumbers (served table.now state.old roll.old last turns)
         result state.new roll.new }
 {
-    serve_numbers(serve(table, state, roll, last, turns))
+    FcServe::from(serve(table, state, roll, last, turns))
 }
 
 // The latches of one process, as many as fit. How many were copied.
@@ -217,8 +182,8 @@ pub extern "C" fn fc_latches(state: &[u32], process: u32, out: &mut [u32]) -> u3
         × (out.new ≡ copied (latches_of state.now process) out.old) }
 {
     let latches = team::latches(state, process as usize);
-    let n = lesser(latches.len(), out.len());
-    copy_first(latches, out, n);
+    let n = latches.len().min(out.len());
+    out[..n].copy_from_slice(&latches[..n]);
     n as u32
 }
 
@@ -228,7 +193,7 @@ pub extern "C" fn fc_link(library: &[u8], program: &[u8], out: &mut [u8]) -> FcL
     ensures { (result ≡ link_numbers (link_answer library.now program.now out.old))
         × (out.new ≡ link_output library.now program.now out.old) }
 {
-    link_numbers(link_tables(library, program, out))
+    FcLink::from(link_tables(library, program, out))
 }
 
 // The joined length; 0 where the two cannot be joined.

@@ -6,14 +6,14 @@
 mod source;
 
 ghost use Rattle.std.specs.Prelude.{◌∷◌, [], ◌++◌, ◌≡◌, ◌*◌, ◌/◌, ◌≤◌, min, length, get_or, take, drop};
-ghost use Rattle.rules.specs.declared.Verdict.TheVariants.{Accepted};
+ghost use Rattle.rules.specs.Answers.{Accepted};
 ghost use Rattle.rules.specs.Input.{table_bytes, end_behind, behind, word_behind, words_of, words_taken, words_exactly};
 ghost use Rattle.rules.specs.Input.{most_input_bytes, question25, run_behind, serve_behind, run_input, serve_input};
 ghost use Rattle.rules.specs.Start.{start_size};
 ghost use Rattle.rules.specs.Table.{decode, word_at};
 
 use rules::Verdict;
-use rules::layout::{DOOR_PLACES, lesser};
+use rules::layout::DOOR_PLACES;
 pub use source::read_full;
 use table::shape::refused;
 use table::words::{header, word};
@@ -36,19 +36,14 @@ pub const INPUT_BYTES: usize = MOST_INPUT_BYTES + 1;
 fn byte_at(bytes: &[u8], i: usize) -> u8
     ensures { result ≡ get_or bytes.now i 0 }
 {
-    if i < bytes.len() { bytes[i] } else { 0 }
+    bytes.get(i).copied().unwrap_or(0)
 }
 
 fn first_bytes(bytes: &[u8]) -> [u8; 4]
     ensures { result ≡ get_or bytes.now 0 0 ∷ get_or bytes.now 1 0 ∷ get_or bytes.now 2 0
         ∷ get_or bytes.now 3 0 ∷ [] }
 {
-    [
-        byte_at(bytes, 0),
-        byte_at(bytes, 1),
-        byte_at(bytes, 2),
-        byte_at(bytes, 3),
-    ]
+    [0, 1, 2, 3].map(|i| byte_at(bytes, i))
 }
 
 fn first_word(bytes: &[u8]) -> u32
@@ -61,15 +56,13 @@ fn first_word(bytes: &[u8]) -> u32
 fn front(bytes: &[u8], count: usize) -> &[u8]
     ensures { result.now ≡ take count bytes.now }
 {
-    let end = lesser(count, bytes.len());
-    &bytes[..end]
+    &bytes[..count.min(bytes.len())]
 }
 
 fn rest(bytes: &[u8], at: usize) -> &[u8]
     ensures { result.now ≡ drop at bytes.now }
 {
-    let start = lesser(at, bytes.len());
-    &bytes[start..]
+    &bytes[at.min(bytes.len())..]
 }
 
 // "a word L, L table bytes"
@@ -109,7 +102,7 @@ pub fn asked(input: &[u8], words: u32) -> Verdict
     if input.len() < end_behind(input, words) {
         return refused(25, 0);
     }
-    Verdict::Accepted
+    Ok(())
 }
 
 // The start words of one process, if this is a table.
@@ -126,7 +119,7 @@ fn words_taken(input: &[u8]) -> usize
 {
     let each = start_size(table_bytes(input));
     let given = behind(input, RUN_BEHIND);
-    lesser(each * word_behind(input, 0) as usize, given.len() / 4)
+    (each * word_behind(input, 0) as usize).min(given.len() / 4)
 }
 
 // "then one byte a turn"
@@ -144,14 +137,15 @@ fn words_exactly(bytes: &[u8]) -> usize
     if length % 4 == 0 { length / 4 } else { 0 }
 }
 
-// The first words of some bytes. The words behind them stay.
-fn read_words(bytes: &[u8], words: &mut [u32], count: usize)
+// The first words of some bytes, and how many they are. The words behind them stay.
+fn read_words(bytes: &[u8], count: usize, words: &mut [u32]) -> usize
     requires { (4 * count ≤ length bytes.now) × (count ≤ length words.old) }
-    ensures { words.new ≡ words_of count bytes.now ++ drop count words.old }
+    ensures { (result ≡ count) × (words.new ≡ words_of count bytes.now ++ drop count words.old) }
 {
-    for i in 0..count {
-        words[i] = word(bytes, i);
+    for (i, place) in words[..count].iter_mut().enumerate() {
+        *place = word(bytes, i);
     }
+    count
 }
 
 // How many start words there are, and the words at the front of a place that all the words of an input fit, if question 25 was
@@ -160,9 +154,7 @@ pub fn run_words(input: &[u8], words: &mut [u32]) -> usize
     requires { (question25 run_behind input.now ≡ Accepted) × (length words.old ≡ most_input_bytes / 4) }
     ensures { (result ≤ most_input_bytes / 4) × (take result words.new ≡ (run_input input.now).words) }
 {
-    let taken = words_taken(input);
-    read_words(behind(input, RUN_BEHIND), words, taken);
-    taken
+    read_words(behind(input, RUN_BEHIND), words_taken(input), words)
 }
 
 pub fn serve_words(input: &[u8], words: &mut [u32]) -> usize
@@ -170,7 +162,5 @@ pub fn serve_words(input: &[u8], words: &mut [u32]) -> usize
     ensures { (result ≤ most_input_bytes / 4) × (take result words.new ≡ (serve_input input.now).words) }
 {
     let given = behind(input, SERVE_BEHIND);
-    let taken = words_exactly(given);
-    read_words(given, words, taken);
-    taken
+    read_words(given, words_exactly(given), words)
 }

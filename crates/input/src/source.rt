@@ -15,6 +15,7 @@ pub fn read_full<R: Read>(reader: &mut R, buf: &mut [u8]) -> io::Result<usize>
         × Consumes (R.remaining reader.old) (R.remaining reader.new) (take n buf.new)) }
 {
     let mut done = 0;
+    // A `while`: how far a read comes is known only behind it, and `read_exact` says nothing of what it read before a failure.
     while done < buf.len() {
         let n = reader.read(&mut buf[done..])?;
         if n == 0 {

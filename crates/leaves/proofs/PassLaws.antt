@@ -6,7 +6,7 @@ use mathlib.Core.Path.{◌≡◌, refl, sym, ◌∙◌, ap}
 use Prim.Native.Nat.{ℕ, zero, suc, ◌+◌, ◌%◌, ◌≤◌, ◌<◌, min}
 use native.Mathlib.Omega.{arith}
 use lib.Dec.{ltb, eqb}
-use lib.ListN.{length, get_or, replicate, length-replicate}
+use lib.ListN.{length, get_or, replicate}
 use borrow.Author.Tests.{ltb-true, eqb-false, ne_eqb}
 use Rattle.rules.specs.declared.Node.{Node}
 use Rattle.rules.specs.Choice.{all_below}
@@ -20,7 +20,7 @@ use Rattle.rules.proofs.KindLaws.{sequence_of, branch_of, loop_of, leave_of, sta
 use Rattle.rules.proofs.ValueLaws.{effect-here}
 use Rattle.table.specs.Marks.{bit_at, with_bit}
 use borrow.Rule.Slice.PartMut.{mid_of, put_mid}
-use Rattle.table.proofs.BitLaws.{length-with_bit, cleared, none-set}
+use Rattle.table.proofs.BitLaws.{length-with_bit, none-set}
 use Rattle.visit.specs.Facts.{Reading, PlaneTo, FactsTo, NotedTo}
 use Rattle.visit.specs.Fields.{facts_plane, leaves_plane, leaves_from, plane_words, all_planes}
 use Rattle.visit.specs.Least.{none, code, failure, least_below}
@@ -249,9 +249,6 @@ module _ (program : Program) (reading : ℕ → Statement) (rule : ℕ) (start :
 
 -- one node more of a stretch
 module _ (program : Program) (first start : ℕ) (before : List ℕ) where
-  pub stretch_none : length before ≡ all_planes → start ≤ none → NodesPassed program first first start before before start
-  stretch_none size high = record { size = size; high = high; passed = λ reading rule begun so_far. so_far }
-
   pub stretch_more : (n least found least' : ℕ) (planes after : List ℕ) → first ≤ n
       → NodesPassed program first n start before planes least → NodePassed program n planes after found → least' ≡ min least found
       → NodesPassed program first (n + 1) start before after least'
@@ -318,42 +315,6 @@ none-noted program formed rule high planes size noted lent =
     let free : (k : ℕ) → k < nodes program → (node_at program k).kind ≡ 26 → ⊥ =
     λ k l. eqb-false (node_at program k).kind 26 (sym (noted.known k l) ∙ clear k (omega (arith, formed.nodes-high))) in
     none_passed program formed (statement_at program) (no-leaves program formed free) rule high planes size clear
-
--- the two planes, cleared
-module _ (planes left-words held-words : List ℕ) (size : length planes ≡ all_planes)
-    (made-left : left-words ≡ replicate (length (left_plane planes)) 0)
-    (made_held : held-words ≡ replicate (length (mid_of leaves_from plane_words (put_mid 0 plane_words planes left-words))) 0) where
-  abbrev first : List ℕ
-  first = put_mid 0 plane_words planes left-words
-
-  abbrev both_cleared : List ℕ
-  both_cleared = put_mid leaves_from plane_words first held-words
-
-  left-zero : left-words ≡ replicate plane_words 0
-  left-zero = cleared left-words (left_plane planes) made-left (used-length planes size)
-
-  left-many : length left-words ≡ plane_words
-  left-many = ap length left-zero ∙ length-replicate {A = ℕ} plane_words 0
-
-  first-size : length first ≡ all_planes
-  first-size = length_put_used planes size left-words left-many
-
-  held-zero : held-words ≡ replicate plane_words 0
-  held-zero =
-      cleared held-words (mid_of leaves_from plane_words first) made_held
-      (ap length (leaves-lent first first-size) ∙ leaves-length first first-size)
-
-  held-many : length held-words ≡ plane_words
-  held-many = ap length held-zero ∙ length-replicate {A = ℕ} plane_words 0
-
-  pub both_clear : Cleared planes both_cleared
-  both_clear =
-      record {
-        size = length_put_leaves first first-size held-words held-many;
-        facts = facts_put_leaves first first-size held-words held-many ∙ facts_put_used planes size left-words left-many;
-        held = leaves_put_leaves first first-size held-words held-many ∙ held-zero;
-        left = used_put_leaves first first-size held-words held-many ∙ used_put_used planes size left-words left-many ∙ left-zero;
-      }
 
 -- a pass over planes that were cleared
 pub passed-cleared : {program : Program} {between after : List ℕ} {reading : ℕ → Statement} {rule r : ℕ} (planes : List ℕ) → Cleared planes between

@@ -13,6 +13,7 @@ ghost use Rattle.visit.specs.Facts.{NotedTo};
 ghost use Rattle.visit.specs.Fields.{facts_plane, leaves_plane, all_planes, plane_words};
 ghost use Rattle.visit.specs.Least.{none, code};
 
+use rules::kinds::{BRANCH, LEAVE, LOOP, SEQUENCE};
 use table::Header;
 use table::marks::{clear, mark, marked, none_marked};
 use table::words::{kind_at, node_at};
@@ -41,33 +42,15 @@ fn either_holds(planes: &[u32], x: u32, y: u32) -> bool
     requires { length planes.now ≡ all_planes }
     ensures { result ≡ either_bit (leaves_plane planes.now) x y }
 {
-    if holds(planes, x) {
-        return true;
-    }
-    holds(planes, y)
+    holds(planes, x) || holds(planes, y)
 }
 
-fn both(s: bool, t: bool) -> bool
-    ensures { result ≡ (s && t) }
-{
-    if s {
-        return t;
-    }
-    false
-}
-
-// Whether a node is left locally: by itself, which `here` says, or since its part x or y is.
-fn left_by(planes: &[u32], here: bool, x: u32, y: u32) -> bool
+// Whether a node is left locally: by itself, if it is local and holds a leave, or since its part x or y is.
+fn left_by(planes: &[u32], local: bool, held: bool, x: u32, y: u32) -> bool
     requires { length planes.now ≡ all_planes }
-    ensures { result ≡ (here || either_bit (left_plane planes.now) x y) }
+    ensures { result ≡ ((local && held) || either_bit (left_plane planes.now) x y) }
 {
-    if here {
-        return true;
-    }
-    if is_left(planes, x) {
-        return true;
-    }
-    is_left(planes, y)
+    (local && held) || is_left(planes, x) || is_left(planes, y)
 }
 
 fn mark_if(marks: &mut [u32], n: usize, bit: bool)
@@ -85,7 +68,7 @@ fn join(planes: &mut [u32], n: usize, local: bool, x: u32, y: u32)
     ensures { Joined n local x y planes.old planes.new }
 {
     let held = either_holds(planes, x, y);
-    let left = left_by(planes, both(local, held), x, y);
+    let left = left_by(planes, local, held, x, y);
     mark_if(&mut planes[LEAVES..PLANES], n, held);
     mark_if(&mut planes[0..PLANE], n, left);
 }
@@ -96,37 +79,34 @@ fn left_by_leave(planes: &[u32], n: usize, b: u32) -> usize
     ensures { result ≡ cond (bit_at (left_plane planes.now) (b % 256) && bit_at (facts_plane planes.now) (b % 256))
         (code 16 n) none }
 {
-    if !is_left(planes, b) {
-        return NONE;
+    if is_left(planes, b) && fact(planes, b) {
+        worse(NONE, 16, n)
+    } else {
+        NONE
     }
-    if !fact(planes, b) {
-        return NONE;
-    }
-    worse(NONE, 16, n)
 }
 
 fn pass_node(table: &[u8], header: Header, planes: &mut [u32], n: usize) -> usize
     requires { Passing well_built table.now header × (n < nodes (decode table.now)) × (length planes.old ≡ all_planes) }
     ensures { NodePassed (decode table.now) n planes.old planes.new result }
 {
-    let kind = kind_at(table, header, n);
-    match kind {
-        18 => {
+    match kind_at(table, header, n) {
+        SEQUENCE => {
             let node = node_at(table, header, n);
             join(planes, n, false, node.a, node.b);
             NONE
         }
-        19 => {
+        BRANCH => {
             let node = node_at(table, header, n);
             let local = fact(planes, node.a);
             join(planes, n, local, node.b, node.c);
             NONE
         }
-        20 => {
+        LOOP => {
             let node = node_at(table, header, n);
             left_by_leave(planes, n, node.b)
         }
-        26 => {
+        LEAVE => {
             note_leave(true, planes, n);
             NONE
         }
@@ -148,11 +128,8 @@ pub fn pass_nodes(
     ensures { NodesPassed (decode table.now) first end start planes.old planes.new result }
 {
     let mut least = start;
-    let mut n = first;
-    while n < end {
-        let found = pass_node(table, header, planes, n);
-        least = lesser(least, found);
-        n += 1;
+    for n in first..end {
+        least = lesser(least, pass_node(table, header, planes, n));
     }
     least
 }

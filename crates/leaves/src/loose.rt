@@ -11,48 +11,43 @@ ghost use Rattle.visit.specs.Fields.{leaves_plane, all_planes};
 
 use crate::holds;
 use loops::nearest_loop;
+use rules::kinds::LEAVE;
 use table::Header;
 use table::words::{body, kind_at};
+
+// Whether the body of procedure p holds no leave.
+fn body_closed(table: &[u8], header: Header, planes: &[u32], p: usize) -> bool
+    requires { Passing well_built table.now header × (length planes.now ≡ all_planes) × (p < header.procedures) }
+    ensures { result ≡ not (bit_at (leaves_plane planes.now) (body (decode table.now) p % 256)) }
+{
+    !holds(planes, body(table, p) as u32)
+}
 
 fn bodies_closed(table: &[u8], header: Header, planes: &[u32]) -> bool
     requires { Passing well_built table.now header × (length planes.now ≡ all_planes) }
     ensures { result ≡ all_below (λ p. not (bit_at (leaves_plane planes.now) (body (decode table.now) p % 256)))
         (procedures (decode table.now)) }
 {
-    let count = header.procedures;
-    let mut p = 0;
-    while p < count {
-        if holds(planes, body(table, p) as u32) {
-            return false;
-        }
-        p += 1;
-    }
-    true
+    (0..header.procedures).all(|p| body_closed(table, header, planes, p))
 }
 
 fn enclosed(table: &[u8], header: Header, n: usize) -> bool
     requires { Passing well_built table.now header × (n < nodes (decode table.now)) }
     ensures { result ≡ leave_enclosed (decode table.now) n }
 {
-    if kind_at(table, header, n) != 26 {
-        return true;
-    }
-    nearest_loop(table, header, n) < header.nodes
+    kind_at(table, header, n) != LEAVE || nearest_loop(table, header, n) < header.nodes
 }
 
 fn first_open(table: &[u8], header: Header) -> usize
     requires { Passing well_built table.now header }
     ensures { result ≡ first_failing (leave_enclosed (decode table.now)) (nodes (decode table.now)) }
 {
-    let count = header.nodes;
-    let mut n = 0;
-    while n < count {
+    for n in 0..header.nodes {
         if !enclosed(table, header, n) {
             return n;
         }
-        n += 1;
     }
-    count
+    header.nodes
 }
 
 // The first leave with no while around it, in a table whose nodes are all visited.

@@ -6,8 +6,7 @@ ghost use Rattle.std.specs.Prelude.{◌≡◌, length};
 ghost use Rattle.rules.specs.WellFormed.{most_table_bytes};
 
 use input::{INPUT_BYTES, LIBRARY_BEHIND, asked, behind, read_full, table_bytes};
-use linker::{Link, joined_length};
-use rules::Verdict;
+use linker::{LinkRefusal, joined_length};
 use rules::layout::MOST_TABLE_BYTES;
 use std::io;
 
@@ -16,18 +15,16 @@ fn link_lent(rt: &impl Print, library: &[u8], program: &[u8], out: &mut [u8]) ->
     requires { length out.old ≡ most_table_bytes }
 {
     let size = joined_length(library, program);
-    let answer = linker::link_tables(library, program, &mut out[..size]);
-    match answer {
-        Link::Joined => report::table(rt, &out[..size]),
-        Link::OfLibrary(refusal) => report::refusal_of_library(rt, refusal),
-        Link::OfProgram(refusal) => report::refusal_of_program(rt, refusal),
+    match linker::link_tables(library, program, &mut out[..size]) {
+        Ok(()) => report::table(rt, &out[..size]),
+        Err(LinkRefusal::OfLibrary(refusal)) => report::refusal_of(rt, refusal, "library"),
+        Err(LinkRefusal::OfProgram(refusal)) => report::refusal_of(rt, refusal, "program"),
     }
 }
 
 fn link(rt: &impl Print, input: &[u8]) -> io::Result<()> {
-    let verdict = asked(input, LIBRARY_BEHIND);
-    match verdict {
-        Verdict::Accepted => {
+    match asked(input, LIBRARY_BEHIND) {
+        Ok(()) => {
             let mut out = [0u8; MOST_TABLE_BYTES];
             link_lent(
                 rt,
@@ -36,7 +33,7 @@ fn link(rt: &impl Print, input: &[u8]) -> io::Result<()> {
                 &mut out,
             )
         }
-        Verdict::Refused(refusal) => report::refusal(rt, refusal),
+        Err(refusal) => report::refusal(rt, refusal),
     }
 }
 

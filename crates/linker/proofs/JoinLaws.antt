@@ -7,12 +7,11 @@ use Prim.Native.Nat.{ℕ, ◌≤◌, ◌<◌}
 use native.Mathlib.Omega.{arith}
 use lib.ListN.{length}
 use borrow.Author.Tests.{eqb-true, eq-eqb}
-use Rattle.linker.specs.declared.Link.{Link}
-use Rattle.linker.specs.declared.Link.TheVariants.{Joined, OfLibrary, OfProgram}
+use Rattle.std.specs.Prelude.{Ok, Err}
+use Rattle.linker.specs.Linking.{Link, Joined}
 use Rattle.linker.specs.Joins.{KeepsLength, LengthTold, SaysJoined, FormedJoin, AcceptedJoin}
-use Rattle.linker.specs.Linking.{renumbered, linked, joined_bytes, on_joined}
-use Rattle.linker.specs.Linking.{joinable, link_answer, link_output, joined_length}
-use Rattle.rules.specs.declared.Verdict.TheVariants.{Accepted}
+use Rattle.linker.specs.Linking.{renumbered, linked, joined_bytes, on_joined, joinable, link_answer, link_output, joined_length}
+use Rattle.rules.specs.Answers.{Accepted}
 use Rattle.rules.specs.Acceptance.{rule_of, question1, body_flagged, judged, checked}
 use Rattle.rules.specs.Encoding.{word_of, encode}
 use Rattle.rules.specs.Judgement.{counted}
@@ -32,14 +31,12 @@ use Rattle.linker.proofs.LinkLaws.{body_library, body-program, body-high, flag_l
 -- the answer
 
 both_joined : (v w : Link) → on_joined v w (λ refusal. refusal) ≡ Joined → (v ≡ Joined) × (w ≡ Joined)
-both_joined Joined w e = (refl, e)
-both_joined (OfLibrary r) w e = let z : ◌≡◌ {A = ℕ} 0 1 = cc in absurd (omega arith)
-both_joined (OfProgram r) w e = let z : ◌≡◌ {A = ℕ} 0 1 = cc in absurd (omega arith)
+both_joined (Ok _) w e = (refl, e)
+both_joined (Err r) w e = let z : ◌≡◌ {A = ℕ} 0 1 = cc in absurd (omega arith)
 
 told : (v : Link) (n : ℕ) → 1 ≤ on_joined v n (λ refusal. 0) → v ≡ Joined
-told Joined n h = refl
-told (OfLibrary r) n h = absurd (omega arith)
-told (OfProgram r) n h = absurd (omega arith)
+told (Ok _) n h = refl
+told (Err r) n h = absurd (omega arith)
 
 module _ (library program output : List ℕ) where
   abbrev bytes : ℕ
@@ -63,9 +60,8 @@ module _ (library program output : List ℕ) where
   length-by : (v : Link) → link_answer library program output ≡ v
       → length (on_joined v (encode (linked (decode library) (decode program))) (λ refusal. output)) ≡ length output
   unfolding encode linked procedures nodes
-  length-by Joined e = bytes-length (word_of (linked (decode library) (decode program))) _ ∙ sym (passed e).1
-  length-by (OfLibrary r) e = refl
-  length-by (OfProgram r) e = refl
+  length-by (Ok _) e = bytes-length (word_of (linked (decode library) (decode program))) _ ∙ sym (passed e).1
+  length-by (Err r) e = refl
 
 pub keeps_length : KeepsLength
 unfolding link_output

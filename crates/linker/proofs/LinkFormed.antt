@@ -7,7 +7,7 @@ use lib.Dec.{ltb}
 use borrow.Author.Tests.{eq-eqb, lt-ltb}
 use Rattle.linker.specs.Linking.{part_at, renumbered, renamed, linked}
 use Rattle.rules.specs.declared.Node.{Node}
-use Rattle.rules.specs.declared.Verdict.TheVariants.{Accepted}
+use Rattle.rules.specs.Answers.{Accepted}
 use Rattle.rules.specs.Encoding.{encode, Encodable, Bounded}
 use Rattle.rules.specs.Table.{Program, decode, procedures, nodes, body, node_at, unpacked}
 use Rattle.rules.specs.Table.{expression_of, statement_of, expression_at, statement_at}

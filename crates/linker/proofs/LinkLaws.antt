@@ -8,12 +8,10 @@ use native.Mathlib.Decide.{dec_lt}
 use native.Mathlib.Omega.{arith}
 use lib.Dec.{leb, ltb, eqb}
 use borrow.Author.Tests.{leb-true, ltb-true, eqb-true, lt-ltb, le-ltb, lt-leb}
-use Rattle.linker.specs.declared.Link.{Link}
-use Rattle.linker.specs.declared.Link.TheVariants.{Joined}
-use Rattle.linker.specs.Linking.{stub, procedure_links, flags_agree, joined_nodes, renumbered, renamed, linked}
+use Rattle.std.specs.Prelude.{Ok, Err}
+use Rattle.linker.specs.Linking.{Link, Joined, stub, procedure_links, flags_agree, joined_nodes, renumbered, renamed, linked}
 use Rattle.linker.specs.Linking.{question27, question28, ask_library, ask_program, joinable}
-use Rattle.rules.specs.declared.Verdict.{Verdict}
-use Rattle.rules.specs.declared.Verdict.TheVariants.{Accepted, Refused}
+use Rattle.rules.specs.Answers.{Verdict, Accepted}
 use Rattle.rules.specs.Encoding.{Encodable, Bounded}
 use Rattle.rules.specs.Table.{Program, decode, variables, procedures, nodes, flagged, body, effect_flag}
 use Rattle.rules.specs.Table.{node_at, statement_at, nothing}
@@ -56,12 +54,12 @@ pub record Links (library program : Program) : Type 0 where
   pub few : joined_nodes library program ≤ 256
 
 library_passed : (v : Verdict) (next : Link) → ask_library v next ≡ Joined → (v ≡ Accepted) × (next ≡ Joined)
-library_passed Accepted next e = (refl, e)
-library_passed (Refused r) next e = let z : ◌≡◌ {A = ℕ} 0 1 = cc in absurd (omega arith)
+library_passed (Ok _) next e = (refl, e)
+library_passed (Err r) next e = let z : ◌≡◌ {A = ℕ} 0 1 = cc in absurd (omega arith)
 
 pub program-passed : (v : Verdict) → ask_program v ≡ Joined → v ≡ Accepted
-program-passed Accepted e = refl
-program-passed (Refused r) e = let z : ◌≡◌ {A = ℕ} 0 1 = cc in absurd (omega arith)
+program-passed (Ok _) e = refl
+program-passed (Err r) e = let z : ◌≡◌ {A = ℕ} 0 1 = cc in absurd (omega arith)
 
 either-false : (s t : Bool) → s ≡ false → (s || t) ≡ true → t ≡ true
 either-false true t e f = let z : ◌≡◌ {A = ℕ} 0 1 = cc in absurd (omega arith)

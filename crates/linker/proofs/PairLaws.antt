@@ -8,8 +8,7 @@ use borrow.Author.Tests.{lt-ltb, le-ltb, lt-leb, le-leb}
 use Rattle.linker.specs.declared.Counts.{Counts}
 use Rattle.linker.specs.Given.{Pair}
 use Rattle.linker.specs.Linking.{procedure_links, flags_agree, joined_nodes, question27, question28, question29}
-use Rattle.rules.specs.declared.Verdict.TheVariants.{Accepted}
-use Rattle.rules.specs.Answers.{refused}
+use Rattle.rules.specs.Answers.{Accepted, refused}
 use Rattle.rules.specs.Choice.{first_failing}
 use Rattle.rules.specs.Table.{decode, variables, procedures}
 use Rattle.rules.specs.WellFormed.{well_formed}

@@ -8,10 +8,9 @@ use native.Mathlib.Omega.{arith}
 use lib.ListN.{length, get_or, replicate, get_or-replicate, get_or-eq_default}
 use lib.Seq.{get_or-drop}
 use Rattle.linker.specs.declared.Counts.{Counts}
-use Rattle.linker.specs.declared.Link.TheVariants.{Joined}
+use Rattle.linker.specs.Linking.{Joined, part_at, joined_nodes, joined_bytes, renumbered, renamed, linked, joinable}
 use Rattle.linker.specs.Given.{Pair, Joinable, Fitting, nodes_of, bytes_of, Movable, body_unit, part_units}
 use Rattle.linker.specs.Given.{moved_procedure, node_behind, moved_node}
-use Rattle.linker.specs.Linking.{part_at, joined_nodes, joined_bytes, renumbered, renamed, linked, joinable}
 use Rattle.linker.proofs.LinkFormed.{linked-fit}
 use Rattle.linker.proofs.LinkLaws.{Links, both_formed, links, link-procedures, link-nodes, stubs-below, part-high, body-high}
 use Rattle.linker.proofs.LinkLaws.{flagged_library, flagged-own, flagged-program, flag_library, flag_own}

@@ -1,8 +1,7 @@
 -- What the code is given: the counts of both tables, and what was asked of them.
 use Rattle.std.specs.Prelude.{List, ◌≡◌, ℕ, ◌+◌, ◌-◌, ◌*◌, ◌^◌, ◌≤◌, ◌<◌}
 use Rattle.linker.specs.declared.Counts.{Counts}
-use Rattle.linker.specs.declared.Link.TheVariants.{Joined}
-use Rattle.linker.specs.Linking.{part_at, joinable}
+use Rattle.linker.specs.Linking.{Joined, part_at, joinable}
 use Rattle.rules.specs.declared.Node.{Node}
 use Rattle.rules.specs.Encoding.{packed}
 use Rattle.rules.specs.Evaluation.{bit}

@@ -1,8 +1,7 @@
 -- What is claimed of a joined table.
 use Rattle.std.specs.Prelude.{List, ◌≡◌, ℕ, ◌≤◌, length}
-use Rattle.linker.specs.declared.Link.TheVariants.{Joined}
-use Rattle.linker.specs.Linking.{linked, link_answer, link_output, joined_length}
-use Rattle.rules.specs.declared.Verdict.TheVariants.{Accepted}
+use Rattle.linker.specs.Linking.{Joined, linked, link_answer, link_output, joined_length}
+use Rattle.rules.specs.Answers.{Accepted}
 use Rattle.rules.specs.Acceptance.{checked}
 use Rattle.rules.specs.Table.{decode}
 use Rattle.rules.specs.WellFormed.{well_formed}

@@ -1,12 +1,11 @@
 -- "Joining a library to a table", request U8. The table that the library is joined to is the program, and a stand-in is a stub here.
 use Rattle.std.specs.Prelude.{Bool, true, false, cond, ◌&&◌, ◌||◌, List, ◌++◌, map, ℕ, ◌+◌, ◌-◌, ◌*◌, min, max, leb, ltb, eqb, length, get_or}
 use Rattle.std.specs.Bool.{beq}
-use Rattle.linker.specs.declared.Link.{Link}
-use Rattle.linker.specs.declared.Link.TheVariants.{Joined, OfLibrary, OfProgram}
+use Rattle.linker.specs.declared.LinkRefusal.{LinkRefusal}
+use Rattle.linker.specs.declared.LinkRefusal.TheVariants.{OfLibrary, OfProgram}
 use Rattle.rules.specs.declared.Node.{Node}
-use Rattle.rules.specs.declared.Verdict.{Verdict}
-use Rattle.rules.specs.declared.Verdict.TheVariants.{Accepted, Refused}
-use Rattle.rules.specs.Answers.{◌then◌, ask, ask_each}
+use Rattle.std.specs.Prelude.{Result, Ok, Err}
+use Rattle.rules.specs.Answers.{Verdict, ◌then◌, ask, ask_each}
 use Rattle.rules.specs.Encoding.{encode}
 use Rattle.rules.specs.Table.{Program, decode, variables, procedures, nodes, flagged, body, effect_flag, node_at}
 use Rattle.rules.specs.Table.{expression_of, statement_of, expression_operands, statement_operands}
@@ -96,20 +95,26 @@ linked library program =
           (renamed (renumbered library program) (node_at program (procedures library + (n - nodes library))));
     }
 
+-- the answer: the joined table is written, or it is refused
+abbrev pub Link : Type 0
+Link = Result (Unit {0}) LinkRefusal
+
+abbrev pub Joined : Link
+Joined = Ok tt
+
 -- "library first, the answer saying which table (the program for 27 to 29)"
 abbrev pub ask_library : Verdict → Link → Link
-ask_library Accepted next = next
-ask_library (Refused r) next = OfLibrary r
+ask_library (Ok _) next = next
+ask_library (Err r) next = Err (OfLibrary r)
 
 abbrev pub ask_program : Verdict → Link
-ask_program Accepted = Joined
-ask_program (Refused r) = OfProgram r
+ask_program (Ok _) = Joined
+ask_program (Err r) = Err (OfProgram r)
 
 -- what is answered once nothing failed, and where something did
 abbrev pub on_joined : {A : Type 0} → Link → A → (Link → A) → A
-on_joined Joined joins refuses = joins
-on_joined (OfLibrary r) joins refuses = refuses (OfLibrary r)
-on_joined (OfProgram r) joins refuses = refuses (OfProgram r)
+on_joined (Ok _) joins refuses = joins
+on_joined (Err r) joins refuses = refuses (Err r)
 
 -- "Turned away, after both tables pass 2 to 12 and 26": what is asked of the two tables, whatever the output
 unfoldable pub joinable : List ℕ → List ℕ → Link

@@ -1,18 +1,15 @@
 // What is asked of the two tables: 2 to 12 and 26 of the library, then of the program, and 27 to 29.
 ghost use Rattle.std.specs.Prelude.{◌≡◌, ◌+◌, ◌<◌, ◌≤◌, length};
-ghost use Rattle.rules.specs.declared.Verdict.TheVariants.{Accepted};
-ghost use Rattle.rules.specs.Answers.{◌then◌};
+ghost use Rattle.rules.specs.Answers.{Accepted, ◌then◌};
 ghost use Rattle.rules.specs.Choice.{first_failing};
 ghost use Rattle.rules.specs.Table.{decode, procedures};
 ghost use Rattle.rules.specs.WellFormed.{well_formed};
-ghost use Rattle.linker.specs.Linking.{stub, procedure_links, flags_agree};
-ghost use Rattle.linker.specs.Linking.{question27, question28, question29, joinable};
+ghost use Rattle.linker.specs.Linking.{stub, procedure_links, flags_agree, question27, question28, question29, joinable};
 ghost use Rattle.linker.specs.Given.{Pair, Fitting, nodes_of, bytes_of};
 
-use crate::{Counts, Link, both_counts};
+use crate::{Counts, Link, LinkRefusal, both_counts};
 use rules::Verdict;
 use rules::kinds::NOTHING;
-use rules::layout::lesser;
 use sweep::{PLANE_WORDS, well_formed};
 use table::shape::refused;
 use table::words::{body, effect_flag, flagged, kind_at};
@@ -97,7 +94,7 @@ fn ask_both(library: &[u8], program: &[u8], both: Counts) -> Verdict
     if procedure <= both.library.procedures {
         return refused(27, procedure as u32);
     }
-    let shared = lesser(both.library.variables, both.program.variables);
+    let shared = both.library.variables.min(both.program.variables);
     let variable = first_disagreeing(library, program, shared);
     if variable < shared {
         return refused(28, variable as u32);
@@ -105,7 +102,7 @@ fn ask_both(library: &[u8], program: &[u8], both: Counts) -> Verdict
     if MOST_NODES + both.library.procedures < both.library.nodes + both.program.nodes {
         return refused(29, 0);
     }
-    Verdict::Accepted
+    Ok(())
 }
 
 // Questions 2 to 12 and 26.
@@ -124,25 +121,13 @@ fn ask_program(library: &[u8], program: &[u8]) -> Verdict
         then question28 (decode library.now) (decode program.now)
         then question29 (decode library.now) (decode program.now)) }
 {
-    let formed = ask_alone(program);
-    match formed {
-        Verdict::Refused(_) => formed,
-        Verdict::Accepted => ask_both(library, program, both_counts(library, program)),
-    }
+    ask_alone(program)?;
+    ask_both(library, program, both_counts(library, program))
 }
 
 pub(crate) fn ask(library: &[u8], program: &[u8]) -> Link
     ensures { result ≡ joinable library.now program.now }
 {
-    let formed = ask_alone(library);
-    match formed {
-        Verdict::Refused(refusal) => Link::OfLibrary(refusal),
-        Verdict::Accepted => {
-            let asked = ask_program(library, program);
-            match asked {
-                Verdict::Refused(refusal) => Link::OfProgram(refusal),
-                Verdict::Accepted => Link::Joined,
-            }
-        }
-    }
+    ask_alone(library).map_err(|refusal| LinkRefusal::OfLibrary(refusal))?;
+    ask_program(library, program).map_err(|refusal| LinkRefusal::OfProgram(refusal))
 }

@@ -2,8 +2,7 @@
 #![tactic(auto)]
 
 ghost use Rattle.std.specs.Prelude.{◌≡◌, ◌≤◌, length};
-ghost use Rattle.linker.specs.Linking.{joinable, link_answer, link_output, joined_length};
-ghost use Rattle.linker.specs.declared.Link.TheVariants.{Joined};
+ghost use Rattle.linker.specs.Linking.{joinable, link_answer, link_output, joined_length, Joined};
 ghost use Rattle.rules.specs.WellFormed.{most_table_bytes};
 ghost use Rattle.table.specs.Header.{header_of};
 
@@ -16,14 +15,15 @@ use table::words::header;
 mod asking; // asking.rt: what is asked of the two tables
 mod writing; // writing.rt: the joined table's words
 
-// The answer: the joined table is written, or the first question that fails, and whether it is put to the library or to the
-// program.
-#[derive(Clone, Copy)]
-pub enum Link {
-    Joined,
+// The first question that fails, and whether it is put to the library or to the program.
+#[derive(Clone, Copy, Debug, PartialEq, Eq)]
+pub enum LinkRefusal {
     OfLibrary(Refusal),
     OfProgram(Refusal),
 }
+
+// The answer: the joined table is written, or it is refused.
+pub type Link = Result<(), LinkRefusal>;
 
 // The counts of both tables.
 #[derive(Clone, Copy)]
@@ -50,35 +50,29 @@ fn link_joinable(library: &[u8], program: &[u8], out: &mut [u8]) -> Link
 {
     let both = both_counts(library, program);
     if out.len() != joined_bytes(both) {
-        return Link::OfProgram(Refusal {
+        return Err(LinkRefusal::OfProgram(Refusal {
             number: 29,
             place: 0,
-        });
+        }));
     }
     write(library, program, both, out);
-    Link::Joined
+    Ok(())
 }
 
 pub fn link_tables(library: &[u8], program: &[u8], out: &mut [u8]) -> Link
     ensures { (result ≡ link_answer library.now program.now out.old)
         × (out.new ≡ link_output library.now program.now out.old) }
 {
-    let asked = ask(library, program);
-    match asked {
-        Link::Joined => link_joinable(library, program, out),
-        Link::OfLibrary(_) => asked,
-        Link::OfProgram(_) => asked,
-    }
+    ask(library, program)?;
+    link_joinable(library, program, out)
 }
 
 // The length that the output has to have, 0 where no output would do.
 pub fn joined_length(library: &[u8], program: &[u8]) -> usize
     ensures { (result ≡ joined_length library.now program.now) × (result ≤ most_table_bytes) }
 {
-    let asked = ask(library, program);
-    match asked {
-        Link::Joined => joined_bytes(both_counts(library, program)),
-        Link::OfLibrary(_) => 0,
-        Link::OfProgram(_) => 0,
+    match ask(library, program) {
+        Ok(()) => joined_bytes(both_counts(library, program)),
+        Err(_) => 0,
     }
 }

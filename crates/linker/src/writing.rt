@@ -67,18 +67,12 @@ fn moved(word: u32, one: u32, both: Counts) -> u32
     word - both.library.procedures as u32 * one + both.library.nodes as u32 * one
 }
 
-fn larger(a: usize, b: usize) -> usize
-    ensures { result ≡ max a b }
-{
-    if a < b { b } else { a }
-}
-
 fn header_word(both: Counts) -> u32
     requires { Fitting both }
     ensures { result ≡ 2 ^ 28 + max both.library.variables both.program.variables * 2 ^ 22
         + both.program.procedures * 2 ^ 17 + nodes_of both * 2 ^ 8 }
 {
-    let variables = larger(both.library.variables, both.program.variables);
+    let variables = both.library.variables.max(both.program.variables);
     268435456
         + variables as u32 * 4194304
         + both.program.procedures as u32 * 131072

@@ -22,13 +22,11 @@ fn has_body(node: Node, n: usize) -> bool
 fn has_part(node: Node, n: usize) -> bool
     ensures { result ≡ has_part node n }
 {
-    if node.kind == SEQUENCE {
-        return node.a as usize == n || node.b as usize == n;
+    match node.kind {
+        SEQUENCE => node.a as usize == n || node.b as usize == n,
+        BRANCH => node.b as usize == n || node.c as usize == n,
+        _ => false,
     }
-    if node.kind == BRANCH {
-        return node.b as usize == n || node.c as usize == n;
-    }
-    false
 }
 
 // Node m if it has node n as such a part, and else n still.
@@ -44,18 +42,15 @@ pub fn nearest_loop(table: &[u8], header: Header, n: usize) -> usize
     requires { Passing well_built table.now header × (n < nodes (decode table.now)) }
     ensures { result ≡ nearest_loop (decode table.now) n }
 {
-    let count = header.nodes;
     let mut inner = n;
-    let mut m = n + 1;
-    while m < count {
+    for m in n + 1..header.nodes {
         let node = node_at(table, header, m);
         if has_body(node, inner) {
             return m;
         }
         inner = outward(node, m, inner);
-        m += 1;
     }
-    count
+    header.nodes
 }
 
 // Whether the table has a leave.
@@ -63,13 +58,10 @@ pub fn has_leave(table: &[u8], header: Header) -> bool
     requires { Passing well_built table.now header }
     ensures { result ≡ has_leave (decode table.now) }
 {
-    let nodes = header.nodes;
-    let mut n = 0;
-    while n < nodes {
+    for n in 0..header.nodes {
         if kind_at(table, header, n) == LEAVE {
             return true;
         }
-        n += 1;
     }
     false
 }

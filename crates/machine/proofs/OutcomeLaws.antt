@@ -5,7 +5,7 @@ use mathlib.Core.Path.{◌≡◌, refl, ◌∙◌, ap}
 use Prim.Native.Nat.{ℕ}
 use borrow.Author.Tests.{eq-eqb, ne_eqb}
 use Rattle.rules.specs.declared.Event.TheVariants.{Moved, Finished, Arrived, Completed, Waiting, Ended}
-use Rattle.rules.specs.declared.Stepped.TheVariants.{Taken}
+use Rattle.std.specs.Prelude.{Ok}
 use Rattle.rules.specs.declared.TeamStatus.{TeamStatus}
 use Rattle.rules.specs.declared.TeamStatus.TheVariants.{Going}
 use Rattle.rules.specs.declared.Node.{Node}
@@ -23,40 +23,40 @@ use Rattle.collectives.proofs.CollectiveLaws.{collective_of_lem}
 
 module _ (state roll : List ℕ) (count p : ℕ) (words : List ℕ) where
   pub moved_on : {after : List ℕ} → after ≡ with_process state p words → (depth words ≡ 0 → ⊥)
-      → Gives (moved state roll count p words) (Taken (record { event = Moved; team = Going })) after roll
+      → Gives (moved state roll count p words) (Ok (record { event = Moved; team = Going })) after roll
   unfolding moved
   moved_on e held = rw (ne_eqb (depth words) 0 held) (record { answered = refl; left = e; written = refl })
 
   pub finished : {after rolled : List ℕ} {team : TeamStatus} → after ≡ with_process state p words → depth words ≡ 0
       → rolled ≡ with_arrival roll p ended_record → team ≡ team_status rolled count
-      → Gives (moved state roll count p words) (Taken (record { event = Finished; team = team })) after rolled
+      → Gives (moved state roll count p words) (Ok (record { event = Finished; team = team })) after rolled
   unfolding moved
   finished e empty r t =
       rw (eq-eqb (depth words) 0 empty)
       (record {
-        answered = ap (λ s. Taken (record { event = Finished; team = s })) (t ∙ ap (λ l. team_status l count) r);
+        answered = ap (λ s. Ok (record { event = Finished; team = s })) (t ∙ ap (λ l. team_status l count) r);
         left = e;
         written = r;
       })
 
 module _ (state roll : List ℕ) (count node : ℕ) (meeting : Collective) where
   pub arrived : {at : ℕ} {team : TeamStatus} → at ≡ node → all_at_one_node roll count ≡ false → team ≡ team_status roll count
-      → Gives (arrived_at state roll count node meeting) (Taken (record { event = Arrived at; team = team })) state roll
+      → Gives (arrived_at state roll count node meeting) (Ok (record { event = Arrived at; team = team })) state roll
   unfolding arrived_at
   arrived n apart t =
       rw (n, apart)
-      (record { answered = ap (λ s. Taken (record { event = Arrived node; team = s })) t; left = refl; written = refl })
+      (record { answered = ap (λ s. Ok (record { event = Arrived node; team = s })) t; left = refl; written = refl })
 
   pub met : {at : ℕ} {after rolled : List ℕ} {team : TeamStatus} → at ≡ node → all_at_one_node roll count ≡ true
       → after ≡ completed_state roll count meeting state → rolled ≡ released_roll after count roll
       → team ≡ team_status rolled count
-      → Gives (arrived_at state roll count node meeting) (Taken (record { event = Completed at; team = team })) after rolled
+      → Gives (arrived_at state roll count node meeting) (Ok (record { event = Completed at; team = team })) after rolled
   unfolding arrived_at completed
   met n together e r t =
       let released = r ∙ ap (λ s. released_roll s count roll) e in
       rw (n, together)
       (record {
-        answered = ap (λ s. Taken (record { event = Completed node; team = s })) (t ∙ ap (λ l. team_status l count) released);
+        answered = ap (λ s. Ok (record { event = Completed node; team = s })) (t ∙ ap (λ l. team_status l count) released);
         left = e;
         written = released;
       })
@@ -96,16 +96,16 @@ module _ (program : Program) (state roll : List ℕ) (count p : ℕ) where
   taken-run e = rw (eq-eqb (status_at roll p) running e)
 
   pub taken-waiting : {team : TeamStatus} → status_at roll p ≡ waiting → team ≡ team_status roll count
-      → Gives (step_taken program state roll count p) (Taken (record { event = Waiting; team = team })) state roll
+      → Gives (step_taken program state roll count p) (Ok (record { event = Waiting; team = team })) state roll
   unfolding step_taken
   taken-waiting e t =
       rw (e)
-      (record { answered = ap (λ s. Taken (record { event = Waiting; team = s })) t; left = refl; written = refl })
+      (record { answered = ap (λ s. Ok (record { event = Waiting; team = s })) t; left = refl; written = refl })
 
   pub taken-ended : {team : TeamStatus} → (status_at roll p ≡ running → ⊥) → (status_at roll p ≡ waiting → ⊥)
       → team ≡ team_status roll count
-      → Gives (step_taken program state roll count p) (Taken (record { event = Ended; team = team })) state roll
+      → Gives (step_taken program state roll count p) (Ok (record { event = Ended; team = team })) state roll
   unfolding step_taken
   taken-ended u v t =
       rw (ne_eqb (status_at roll p) running u, ne_eqb (status_at roll p) waiting v)
-      (record { answered = ap (λ s. Taken (record { event = Ended; team = s })) t; left = refl; written = refl })
+      (record { answered = ap (λ s. Ok (record { event = Ended; team = s })) t; left = refl; written = refl })

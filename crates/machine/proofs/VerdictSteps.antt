@@ -8,10 +8,8 @@ use lib.Dec.{leb, ltb, eqb}
 use lib.ListN.{length}
 use borrow.Author.Tests.{leb-true, ltb-true, eqb-true, not-true}
 use Rattle.rules.specs.declared.Refusal.{Refusal}
-use Rattle.rules.specs.declared.Stepped.TheVariants.{Refused}
-use Rattle.rules.specs.declared.Verdict.{Verdict}
-use Rattle.rules.specs.declared.Verdict.TheVariants.{Accepted, Refused as Failed}
-use Rattle.rules.specs.Answers.{◌then◌, ask_each}
+use Rattle.std.specs.Prelude.{Err}
+use Rattle.rules.specs.Answers.{Verdict, Accepted, ◌then◌, ask_each}
 use Rattle.rules.specs.Arrivals.{arrival_size, all_at_one_node}
 use Rattle.rules.specs.Process.{process_words, most_processes}
 use Rattle.rules.specs.Start.{question18, question19, question20, question21}
@@ -28,13 +26,13 @@ use Rattle.machine.specs.Outcomes.{Asked, Ready, Gives}
 use Rattle.rules.specs.Table.{Program, decode}
 
 -- a question that refuses decides, and one that holds leaves the answer to the next
-after_refusal : {a : Verdict} (b : Verdict) {r : Refusal} → a ≡ Failed r → (a then b) ≡ Failed r
+after_refusal : {a : Verdict} (b : Verdict) {r : Refusal} → a ≡ Err r → (a then b) ≡ Err r
 after_refusal b e = rw e
 
 after-accepted : {a : Verdict} (b : Verdict) → a ≡ Accepted → (a then b) ≡ b
 after-accepted b e = rw e
 
-holds_so : (holds : Bool) (r : Refusal) → cond holds Accepted (Failed r) ≡ Accepted → holds ≡ true
+holds_so : (holds : Bool) (r : Refusal) → cond holds Accepted (Err r) ≡ Accepted → holds ≡ true
 holds_so true r e = refl
 holds_so false r e = let z : ◌≡◌ {A = ℕ} 0 1 = cc in absurd (omega arith)
 
@@ -54,11 +52,11 @@ module _ (table state roll : List ℕ) (p : ℕ) where
       (then_assoc (question21 (processes_in roll) roll) (question20 (processes_in roll) state)
       (standing (decode table) state roll (processes_in roll) p)))
 
-  pub unformed : {r : Refusal} → well_formed table ≡ Failed r → team_verdict table state roll p ≡ Failed r
+  pub unformed : {r : Refusal} → well_formed table ≡ Err r → team_verdict table state roll p ≡ Err r
   unformed e = in_parts ∙ after_refusal _ e
 
   module _ (formed : well_formed table ≡ Accepted) where
-    pub unsized : {r : Refusal} → sizes state roll ≡ Failed r → team_verdict table state roll p ≡ Failed r
+    pub unsized : {r : Refusal} → sizes state roll ≡ Err r → team_verdict table state roll p ≡ Err r
     unsized e = in_parts ∙ after-accepted _ formed ∙ after_refusal _ e
 
     module _ (sized : sizes state roll ≡ Accepted) where
@@ -107,19 +105,19 @@ module _ (table state roll : List ℕ) (p : ℕ) where
         }
 
   -- a step by its questions
-  denied : {r : Refusal} → step_verdict table state roll p ≡ Failed r
-      → Gives (stepped table state roll p) (Refused r) state roll
+  denied : {r : Refusal} → step_verdict table state roll p ≡ Err r
+      → Gives (stepped table state roll p) (Err r) state roll
   unfolding stepped stepped_by
   denied e = rw e (record { answered = refl; left = refl; written = refl })
 
-  pub denied-team : {r : Refusal} → team_verdict table state roll p ≡ Failed r
-      → Gives (stepped table state roll p) (Refused r) state roll
+  pub denied-team : {r : Refusal} → team_verdict table state roll p ≡ Err r
+      → Gives (stepped table state roll p) (Err r) state roll
   unfolding step_verdict
   denied-team e = denied (after_refusal _ e)
 
   module _ (holds : team_verdict table state roll p ≡ Accepted) where
     pub denied-place : place_lacked (decode table) state roll (processes_in roll) p ≡ true
-        → Gives (stepped table state roll p) (Refused (record { number = 24; place = p })) state roll
+        → Gives (stepped table state roll p) (Err (record { number = 24; place = p })) state roll
     unfolding step_verdict
     denied-place e = denied (rw (holds, e))
 
@@ -137,19 +135,19 @@ module _ (table : List ℕ) (count : ℕ) (words state roll : List ℕ) where
   abbrev pub asked : Verdict
   asked = question18 count then question19 (decode table) count words then question20 count state then question21 count roll
 
-  refused-start : {r : Refusal} → start_verdict table count words state roll ≡ Failed r
-      → Starts (started table count words state roll) (Failed r) state roll
+  refused-start : {r : Refusal} → start_verdict table count words state roll ≡ Err r
+      → Starts (started table count words state roll) (Err r) state roll
   unfolding started started_by
   refused-start e = rw e (record { answered = refl; left = refl; written = refl })
 
-  pub refused_form : {r : Refusal} → well_formed table ≡ Failed r
-      → Starts (started table count words state roll) (Failed r) state roll
+  pub refused_form : {r : Refusal} → well_formed table ≡ Err r
+      → Starts (started table count words state roll) (Err r) state roll
   unfolding start_verdict
   refused_form e = refused-start (after_refusal asked e)
 
   module _ (formed : well_formed table ≡ Accepted) where
-    pub refused-asked : {r : Refusal} → asked ≡ Failed r
-        → Starts (started table count words state roll) (Failed r) state roll
+    pub refused-asked : {r : Refusal} → asked ≡ Err r
+        → Starts (started table count words state roll) (Err r) state roll
     unfolding start_verdict
     refused-asked e = refused-start (after-accepted asked formed ∙ e)
 

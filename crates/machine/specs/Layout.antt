@@ -1,7 +1,6 @@
 -- What a start lays out, word by word, and how it answers.
 use Rattle.std.specs.Prelude.{cond, List, ◌≡◌, ℕ, ◌+◌, ◌-◌, ◌*◌, ◌≤◌, ltb, eqb, length, get_or}
-use Rattle.rules.specs.declared.Verdict.{Verdict}
-use Rattle.rules.specs.declared.Verdict.TheVariants.{Accepted}
+use Rattle.rules.specs.Answers.{Verdict, Accepted}
 use Rattle.rules.specs.Process.{doors_at, latches_at, depth_at, stack_at, process_words, most_processes}
 use Rattle.rules.specs.Start.{Started, start_size}
 use Rattle.rules.specs.WellFormed.{well_formed}

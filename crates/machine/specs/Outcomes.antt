@@ -1,6 +1,6 @@
 -- What a step that is taken is given of a team, and how it answers.
 use Rattle.std.specs.Prelude.{true, false, List, ◌≡◌, ℕ, ◌<◌}
-use Rattle.rules.specs.declared.Stepped.{Stepped}
+use Rattle.rules.specs.Answers.{Stepped}
 use Rattle.rules.specs.Arrivals.{all_at_one_node}
 use Rattle.rules.specs.Step.{Outcome, process_fits, place_lacked}
 use Rattle.table.specs.declared.Header.{Header}

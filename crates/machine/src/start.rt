@@ -37,10 +37,8 @@ fn lay_out(words: &mut [u32], given: &[u32], variables: usize, entry: u32)
     requires { (length words.old ≡ process_words) × (length given.now ≡ variables + doors) × (variables ≤ variable_places) }
     ensures { (i : ℕ) → i < process_words → get_or words.new i 0 ≡ laid_word variables entry given.now i }
 {
-    let mut i = 0;
-    while i < PROCESS_WORDS {
+    for i in 0..PROCESS_WORDS {
         words[i] = laid_word(given, variables, entry, i);
-        i += 1;
     }
 }
 
@@ -60,13 +58,11 @@ pub(crate) fn start_state(table: &[u8], count: u32, words: &[u32], state: &mut [
     let head = header(table);
     let variables = head.variables;
     let entry = body(table, head.procedures - 1) as u32;
-    let mut p = 0;
-    while p < count as usize {
+    for p in 0..count as usize {
         let at = PROCESS_WORDS * p;
         let end = at + PROCESS_WORDS;
         let given = given_to(words, variables + DOOR_PLACES, p);
         lay_out(&mut state[at..end], given, variables, entry);
-        p += 1;
     }
 }
 
@@ -74,8 +70,7 @@ pub(crate) fn start_roll(roll: &mut [u32], count: usize)
     requires { length roll.old ≡ arrival_size * count }
     ensures { roll.new ≡ start_roll count roll.old }
 {
-    let mut p = 0;
-    while p < count {
+    for p in 0..count {
         let running = Arrival {
             status: Status::Running,
             node: 0,
@@ -83,6 +78,5 @@ pub(crate) fn start_roll(roll: &mut [u32], count: usize)
             source: 0,
         };
         write(roll, p, running);
-        p += 1;
     }
 }

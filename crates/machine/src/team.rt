@@ -1,7 +1,7 @@
 // A team (the paper's site) on plain words: state and roll, so many words a process. "A refusal leaves state,
 // roll and any lent output unchanged."
 ghost use Rattle.std.specs.Prelude.{◌≡◌, ◌*◌, ◌/◌};
-ghost use Rattle.rules.specs.declared.Verdict.TheVariants.{Accepted};
+ghost use Rattle.rules.specs.Answers.{Accepted};
 ghost use Rattle.rules.specs.Start.{started, latches_of};
 ghost use Rattle.rules.specs.Step.{team_verdict, stepped};
 ghost use Rattle.rules.specs.WellFormed.{well_formed};
@@ -28,15 +28,10 @@ fn start_formed(
         (started table.now processes words.now state.old roll.old)
         result state.new roll.new }
 {
-    let asked = start_asked(table, processes, words, state, roll);
-    match asked {
-        Verdict::Refused(refusal) => Verdict::Refused(refusal),
-        Verdict::Accepted => {
-            start_state(table, processes, words, state);
-            start_roll(roll, processes as usize);
-            Verdict::Accepted
-        }
-    }
+    start_asked(table, processes, words, state, roll)?;
+    start_state(table, processes, words, state);
+    start_roll(roll, processes as usize);
+    Ok(())
 }
 
 // Questions 2 to 12, 26 and 18 to 21, then the words and the records of every process.
@@ -52,11 +47,8 @@ pub fn start(
         result state.new roll.new }
 {
     let mut planes = [0u32; PLANE_WORDS];
-    let formed = well_formed(table, &mut planes);
-    match formed {
-        Verdict::Refused(refusal) => Verdict::Refused(refusal),
-        Verdict::Accepted => start_formed(table, processes, words, state, roll),
-    }
+    well_formed(table, &mut planes)?;
+    start_formed(table, processes, words, state, roll)
 }
 
 // Questions 21, 20, 22 and 23 of a table that is well formed.
@@ -64,14 +56,9 @@ fn formed_asked(table: &[u8], state: &[u32], roll: &[u32], process: u32) -> Verd
     requires { well_formed table.now ≡ Accepted }
     ensures { result ≡ team_verdict table.now state.now roll.now process }
 {
-    let sizes = sizes_asked(state, roll);
-    match sizes {
-        Verdict::Refused(refusal) => Verdict::Refused(refusal),
-        Verdict::Accepted => {
-            let count = (roll.len() / ARRIVAL_WORDS) as u32;
-            team_asked(table, header(table), state, roll, count, process)
-        }
-    }
+    sizes_asked(state, roll)?;
+    let count = (roll.len() / ARRIVAL_WORDS) as u32;
+    team_asked(table, header(table), state, roll, count, process)
 }
 
 // A step's questions up to 23.
@@ -79,11 +66,8 @@ pub fn asked(table: &[u8], state: &[u32], roll: &[u32], process: u32) -> Verdict
     ensures { result ≡ team_verdict table.now state.now roll.now process }
 {
     let mut planes = [0u32; PLANE_WORDS];
-    let formed = well_formed(table, &mut planes);
-    match formed {
-        Verdict::Refused(refusal) => Verdict::Refused(refusal),
-        Verdict::Accepted => formed_asked(table, state, roll, process),
-    }
+    well_formed(table, &mut planes)?;
+    formed_asked(table, state, roll, process)
 }
 
 fn step_asked(table: &[u8], state: &mut [u32], roll: &mut [u32], process: u32) -> Stepped
@@ -94,7 +78,7 @@ fn step_asked(table: &[u8], state: &mut [u32], roll: &mut [u32], process: u32) -
     let count = (roll.len() / ARRIVAL_WORDS) as u32;
     let head = header(table);
     if place_lacked(table, head, state, roll, count, process as usize) {
-        return Stepped::Refused(Refusal {
+        return Err(Refusal {
             number: 24,
             place: process,
         });
@@ -107,11 +91,8 @@ pub fn step(table: &[u8], state: &mut [u32], roll: &mut [u32], process: u32) -> 
     ensures { Gives (stepped table.now state.old roll.old process)
         result state.new roll.new }
 {
-    let verdict = asked(table, state, roll, process);
-    match verdict {
-        Verdict::Refused(refusal) => Stepped::Refused(refusal),
-        Verdict::Accepted => step_asked(table, state, roll, process),
-    }
+    asked(table, state, roll, process)?;
+    step_asked(table, state, roll, process)
 }
 
 // A process's latches as the part of the lent state that holds them; empty where the process is missing.

@@ -52,7 +52,7 @@ fn move_on(
     advance_in(table, header, state, count, p, node);
     let depth = PROCESS_WORDS * p + DEPTH_AT;
     if state[depth] != 0 {
-        return Stepped::Taken(Answer {
+        return Ok(Answer {
             event: Event::Moved,
             team: TeamStatus::Going,
         });
@@ -60,7 +60,7 @@ fn move_on(
     let ended = read(roll, p).end();
     write(roll, p, ended);
     let team = team_status(roll, count as usize);
-    Stepped::Taken(Answer {
+    Ok(Answer {
         event: Event::Finished,
         team,
     })
@@ -111,7 +111,7 @@ fn meet(
     let processes = count as usize;
     if !all_at_one_node(roll, processes) {
         let team = team_status(roll, processes);
-        return Stepped::Taken(Answer {
+        return Ok(Answer {
             event: Event::Arrived(n),
             team,
         });
@@ -119,7 +119,7 @@ fn meet(
     complete(state, roll, processes, node);
     release(state, roll, processes);
     let after = team_status(roll, processes);
-    Stepped::Taken(Answer {
+    Ok(Answer {
         event: Event::Completed(n),
         team: after,
     })
@@ -165,12 +165,12 @@ pub(crate) fn take_turn(
     }
     let team = team_status(roll, count as usize);
     if status == WAITING {
-        return Stepped::Taken(Answer {
+        return Ok(Answer {
             event: Event::Waiting,
             team,
         });
     }
-    Stepped::Taken(Answer {
+    Ok(Answer {
         event: Event::Ended,
         team,
     })

@@ -13,9 +13,8 @@ ghost use Rattle.preconditions.specs.Asked.{words_fit};
 use collectives::arrivals::{node_of, source_of, status_at, value_of};
 use loops::nearest_loop;
 use process::stack::{process_at, top};
-use process::step::is_collective;
 use rules::Node;
-use rules::kinds::{BROADCAST, ENDED, EXCHANGE, LEAVE, RUNNING, WAITING};
+use rules::kinds::{BARRIER, BROADCAST, ENDED, EXCHANGE, LEAVE, RUNNING, WAITING};
 use rules::layout::{DEPTH_AT, STACK_AT, STACK_PLACES};
 use table::Header;
 use table::fields::names_statement;
@@ -32,8 +31,7 @@ fn stack_fits(table: &[u8], header: Header, words: &[u32]) -> bool
 {
     let depth = words[DEPTH_AT] as usize;
     let pairs = depth / 2;
-    let mut i = 0;
-    while i < pairs {
+    for i in 0..pairs {
         let at = STACK_AT + 2 * i;
         if !names_statement(table, header, words[at] as usize) {
             return false;
@@ -41,7 +39,6 @@ fn stack_fits(table: &[u8], header: Header, words: &[u32]) -> bool
         if !names_statement(table, header, words[at + 1] as usize) {
             return false;
         }
-        i += 1;
     }
     if depth % 2 == 0 {
         return true;
@@ -53,13 +50,7 @@ fn fields_zero(roll: &[u32], p: usize) -> bool
     requires { arrival_size * p + 3 < length roll.now }
     ensures { result ≡ fields_zero roll.now p }
 {
-    if node_of(roll, p) != 0 {
-        return false;
-    }
-    if value_of(roll, p) != 0 {
-        return false;
-    }
-    source_of(roll, p) == 0
+    node_of(roll, p) == 0 && value_of(roll, p) == 0 && source_of(roll, p) == 0
 }
 
 // "a field the kind lacks is 0", and false of a statement that is no collective
@@ -67,20 +58,12 @@ fn lacked_zero(roll: &[u32], p: usize, node: Node) -> bool
     requires { arrival_size * p + 3 < length roll.now }
     ensures { result ≡ on_collective (statement_of node) (lacked_zero roll.now p) false }
 {
-    let kind = node.kind;
-    if !is_collective(kind) {
-        return false;
+    match node.kind {
+        BARRIER => value_of(roll, p) == 0 && source_of(roll, p) == 0,
+        BROADCAST => true,
+        EXCHANGE => source_of(roll, p) == 0,
+        _ => false,
     }
-    if kind == BROADCAST {
-        return true;
-    }
-    if kind == EXCHANGE {
-        return source_of(roll, p) == 0;
-    }
-    if value_of(roll, p) != 0 {
-        return false;
-    }
-    source_of(roll, p) == 0
 }
 
 fn wait_fits(table: &[u8], header: Header, words: &[u32], roll: &[u32], p: usize) -> bool
@@ -102,13 +85,10 @@ fn lies_below(words: &[u32], w: usize) -> bool
         (depth words.now - 1)) }
 {
     let below = words[DEPTH_AT] as usize - 1;
-    let mut height = 0;
-    while height < below {
-        let at = STACK_AT + height;
-        if words[at] as usize == w {
+    for height in 0..below {
+        if words[STACK_AT + height] as usize == w {
             return true;
         }
-        height += 1;
     }
     false
 }
@@ -185,12 +165,10 @@ pub fn first_unfit(table: &[u8], header: Header, state: &[u32], roll: &[u32], co
         × (length roll.now ≡ arrival_size * count) }
     ensures { result ≡ first_failing (process_fits (decode table.now) state.now roll.now) count }
 {
-    let mut p = 0;
-    while p < count {
+    for p in 0..count {
         if !words_fit(table, header, process_at(state, p), roll, p) {
             return p;
         }
-        p += 1;
     }
     count
 }

@@ -2,8 +2,7 @@
 #![tactic(auto)]
 
 ghost use Rattle.std.specs.Prelude.{true, ◌≡◌, ◌<◌};
-ghost use Rattle.rules.specs.declared.Verdict.TheVariants.{Accepted};
-ghost use Rattle.rules.specs.Answers.{◌then◌};
+ghost use Rattle.rules.specs.Answers.{Accepted, ◌then◌};
 ghost use Rattle.rules.specs.Process.{environment, top, needs_place};
 ghost use Rattle.rules.specs.Start.{question18, question19, question20, question21};
 ghost use Rattle.rules.specs.Step.{processes_in, process_fits, place_lacked, question22, question23};
@@ -56,7 +55,7 @@ pub fn start_asked(
     if roll.len() != ARRIVAL_WORDS * count {
         return refused(21, 0);
     }
-    Verdict::Accepted
+    Ok(())
 }
 
 // Questions 21 and 20 of a step.
@@ -77,7 +76,7 @@ pub fn sizes_asked(state: &[u32], roll: &[u32]) -> Verdict
     if state.len() != PROCESS_WORDS * count {
         return refused(20, 0);
     }
-    Verdict::Accepted
+    Ok(())
 }
 
 // 24's "if one is needed"
@@ -93,14 +92,11 @@ fn needs_place(
     ensures { result ≡ needs_place (decode table.now) (environment words.now own count)
         (statement_at (decode table.now) (top words.now)) }
 {
-    let kind = node.kind;
-    if kind == SEQUENCE {
-        return true;
+    match node.kind {
+        SEQUENCE => true,
+        LOOP => evaluate(table, header, words, own, count, node.a as usize) != 0,
+        _ => false,
     }
-    if kind == LOOP {
-        return evaluate(table, header, words, own, count, node.a as usize) != 0;
-    }
-    false
 }
 
 // 24: "Has the bank a free stack place if one is needed?"
@@ -150,5 +146,5 @@ pub fn team_asked(
     if all_at_one_node(roll, count as usize) {
         return refused(23, 0);
     }
-    Verdict::Accepted
+    Ok(())
 }

@@ -56,6 +56,7 @@ pub(crate) fn unwind(words: &mut [u32], w: u32)
     requires { (length words.old ≡ process_words) × (depth words.old ≤ stack_places) }
     ensures { words.new ≡ unwound w (depth words.old) words.old }
 {
+    // No count to go over: each turn takes an entry off the stack, and may be the last.
     while words[DEPTH_AT] != 0 {
         let entry = top(words);
         pop(words);

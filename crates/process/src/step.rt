@@ -14,7 +14,6 @@ use rules::Node;
 use rules::kinds::{ASSIGN, BARRIER, BRANCH, CALL, EXCHANGE, LATCH, LEAVE, LOOP, SEQUENCE};
 use rules::layout::{LATCH_PLACES, LATCHES_AT};
 use table::Header;
-use table::shape::between;
 use table::words::body;
 use values::evaluation::value_at;
 
@@ -115,7 +114,7 @@ fn leave(table: &[u8], header: Header, words: &mut [u32])
 pub fn is_collective(kind: u32) -> bool
     ensures { result ≡ is_collective kind }
 {
-    between(BARRIER as usize, kind as usize, EXCHANGE as usize)
+    matches!(kind, BARRIER..=EXCHANGE)
 }
 
 // The step of the top statement, which is no collective.
@@ -125,10 +124,9 @@ pub fn advance(table: &[u8], header: Header, words: &mut [u32], own: u32, count:
         ≡ advanced (decode table.now) (environment words.old own count) words.old
         (statement_at (decode table.now) (top words.old)) }
 {
-    let kind = node.kind;
     let a = node.a as usize;
     let b = node.b as usize;
-    match kind {
+    match node.kind {
         ASSIGN => assign(table, header, words, own, count, a, b),
         SEQUENCE => sequence(words, node.a, node.b),
         BRANCH => branch(table, header, words, own, count, node),

@@ -12,17 +12,22 @@ use borrow.Author.Tests.{ltb-true, lt-leb, eq-eqb, eqb-false, ne_eqb}
 use Rattle.rules.specs.declared.Node.{Node}
 use Rattle.rules.specs.Table.{decode, procedures, nodes, node_at}
 use Rattle.rules.specs.WellFormed.{node_fits, kind_known}
+use Rattle.table.specs.declared.fields.Role.TheVariants.{Unnamed, Procedure}
+use Rattle.table.specs.declared.fields.Roles.{Roles}
 use Rattle.table.specs.Marks.{with_bit}
-use Rattle.table.specs.Roles.{field_fits}
+use Rattle.table.specs.Roles.{three, field_fits}
 use Rattle.table.specs.Sized.{Sized}
+use Rattle.table.proofs.TestLaws.{never}
 use Rattle.visit.specs.declared.Visit.{Visit}
+use Rattle.visit.specs.declared.facts.Source.{Source}
+use Rattle.visit.specs.declared.facts.Source.TheVariants.{Never, Always, Unflagged, Flagged, Called, OfA, OfB, OfAOrB, OfBOrC}
 use Rattle.visit.specs.Facts.{Reading, FactsTo, Settled}
 use Rattle.visit.specs.Fields.{used_plane, facts_plane, leaves_plane, all_planes, Fields, Kept}
 use Rattle.visit.specs.Quick.{Quick}
 use Rattle.quick.specs.Visited.{Visited}
 use Rattle.visit.proofs.FactLaws.{plane_more}
 use Rattle.visit.proofs.PlaneLaws.{used-length, kept-none}
-use Rattle.visit.proofs.QuickLaws.{Named, known_kind, three, free-fits, quickly, calls-below}
+use Rattle.visit.proofs.QuickLaws.{Named, known_kind, three-tests, free-fits, quickly, calls-below}
 use Rattle.visit.proofs.SettledLaws.{Judges, settled-used, settled-unused, settled-judged}
 use Rattle.visit.proofs.StuckLaws.{stuck-by, stuck-kind}
 
@@ -46,7 +51,7 @@ module _ (table : List ℕ) (v : Visit) (sized : Sized table v.header) (low : v.
   n = v.node
 
   -- an arm of the match, by the roles of its kind, by what judges it, and by the leave that is noted
-  arm : (m : Node) (roles source question guard r : ℕ) (before now between after : List ℕ) (used : Bool)
+  arm : (m : Node) (roles : Roles) (source : Source) (question guard r : ℕ) (before now between after : List ℕ) (used : Bool)
       → m ≡ node_at (decode table) n
       → Named m.kind roles
       → (n < nodes (decode table) → node_fits (decode table) n ≡ true → (reading : Reading (decode table) n (n + 1)) → FactsTo (decode table) reading.counts n (facts_plane before)
@@ -84,7 +89,7 @@ module _ (table : List ℕ) (v : Visit) (sized : Sized table v.header) (low : v.
       }
 
   -- that of a leave
-  pub leave-arm : (m : Node) (roles source question guard r : ℕ) (before now between after : List ℕ) (used : Bool)
+  pub leave-arm : (m : Node) (roles : Roles) (source : Source) (question guard r : ℕ) (before now between after : List ℕ) (used : Bool)
       → m ≡ node_at (decode table) n
       → Named m.kind roles
       → (n < nodes (decode table) → node_fits (decode table) n ≡ true → (reading : Reading (decode table) n (n + 1)) → FactsTo (decode table) reading.counts n (facts_plane before)
@@ -101,7 +106,7 @@ module _ (table : List ℕ) (v : Visit) (sized : Sized table v.header) (low : v.
       (λ e. noted e ∙ simp (eq-eqb m.kind 26 is))
 
   -- that of any other node, by its word and by what the match knows of its kind
-  pub word-arm : {Key : ℕ → Type 0} {kind roles source question r : ℕ} {word m : Node} {before now after : List ℕ} {used : Bool}
+  pub word-arm : {Key : ℕ → Type 0} {kind question r : ℕ} {roles : Roles} {source : Source} {word m : Node} {before now after : List ℕ} {used : Bool}
       (guard : Node → ℕ)
       → ((k : ℕ) → Key k → Named k roles)
       → (n < nodes (decode table) → node_fits (decode table) n ≡ true → (reading : Reading (decode table) n (n + 1)) → FactsTo (decode table) reading.counts n (facts_plane before)
@@ -116,7 +121,7 @@ module _ (table : List ℕ) (v : Visit) (sized : Sized table v.header) (low : v.
       → Fields (decode table) v m roles before now used
       → Settled (decode table) v m used source question (guard m) now after r
       → Visited (decode table) v before after r
-  word-arm {Key} {kind} {roles} {source} {question} {r} {word} {m} {before} {now} {after} {used} guard named judges other size here is key
+  word-arm {Key} {kind} {question} {r} {roles} {source} {word} {m} {before} {now} {after} {used} guard named judges other size here is key
       node f s =
       let same : m ≡ node_at (decode table) n = node ∙ here in
       let key_here : Key (node_at (decode table) n).kind = rw (is ∙ ap (λ (m : Node). m.kind) here) at key in
@@ -139,13 +144,28 @@ module _ (table : List ℕ) (v : Visit) (sized : Sized table v.header) (low : v.
         facts = λ found. absurd (found refl);
       }
 
+-- no other source is that of a call
+abbrev pub is_called : Source → Bool
+is_called Never = false
+is_called Always = false
+is_called Unflagged = false
+is_called Flagged = false
+is_called Called = true
+is_called OfA = false
+is_called OfB = false
+is_called OfAOrB = false
+is_called OfBOrC = false
+
+pub uncalled : {source : Source} {A : Type 0} → is_called source ≡ false → source ≡ Called → A
+uncalled other called = never (sym (ap is_called called) ∙ other)
+
 -- a call that is taken names a procedure
 pub called-below : {table : List ℕ} {v : Visit} {m : Node} {before after : List ℕ} {r : Bool} → Sized table v.header
-    → Fields (decode table) v m 400 before after r → r ≡ true → m.a < v.header.procedures
+    → Fields (decode table) v m (three Procedure Unnamed Unnamed) before after r → r ≡ true → m.a < v.header.procedures
 unfolding field_fits
 called-below {table} {v} {m} {before} sized f taken =
-    let t = three (decode table) (used_plane before) v m 400 (f.taken taken).free in
-    let fits : ltb m.a (procedures (decode table)) ≡ true = free-fits (decode table) (used_plane before) v 4 m.a t.a in
+    let t = three-tests (decode table) (used_plane before) v m (three Procedure Unnamed Unnamed) (f.taken taken).free in
+    let fits : ltb m.a (procedures (decode table)) ≡ true = free-fits (decode table) (used_plane before) v Procedure m.a t.a in
     omega (arith, ltb-true m.a (procedures (decode table)) fits, sized.procedures-read)
 
 -- what the match leaves once no arm before fits

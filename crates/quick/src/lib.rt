@@ -7,10 +7,15 @@ ghost use Rattle.table.specs.Sized.{Sized};
 ghost use Rattle.quick.specs.Visited.{Visited};
 ghost use Rattle.visit.specs.Fields.{all_planes};
 
-use table::words::{kind_of, unpacked};
-use visit::facts::{
-    ALWAYS, CALLED, FLAGGED, NEVER, OF_A, OF_A_OR_B, OF_B, OF_B_OR_C, UNFLAGGED, UNRULED, settled,
+use rules::kinds::{
+    ASSIGN, BARRIER, BOTH, BRANCH, BROADCAST, CALL, CONSTANT, DIFFERENCE, DOOR, EQUAL, EXCHANGE,
+    LATCH, LEAVE, LESS, LOOP, NOTHING, OWN_NUMBER, PROCESS_COUNT, PRODUCT, QUOTIENT, SEQUENCE,
+    SLOT, SUM, VARIABLE,
 };
+use table::fields::Role::{Area, Expression, Half, Procedure, Statement, Unnamed, Variable};
+use table::words::{kind_of, unpacked};
+use visit::facts::Source::{Always, Called, Flagged, Never, OfA, OfAOrB, OfB, OfBOrC, Unflagged};
+use visit::facts::{UNRULED, settled};
 use visit::fields::fields;
 use visit::noted::note_leave;
 use visit::{STUCK, Visit};
@@ -22,88 +27,87 @@ pub fn quick(table: &[u8], planes: &mut [u32], visit: Visit, packed: u32) -> usi
     requires packed_value { unpacked packed ≡ node_at (decode table.now) visit.node }
     ensures { Visited (decode table.now) visit planes.old planes.new result }
 {
-    let kind = kind_of(packed);
-    match kind {
-        0 => {
+    match kind_of(packed) {
+        CONSTANT => {
             let node = unpacked(packed);
-            let used = fields(table, planes, visit, node, 55);
-            settled(used, table, planes, visit, node, NEVER, UNRULED, node.a)
+            let used = fields(table, planes, visit, node, Unnamed, Half, Half);
+            settled(used, table, planes, visit, node, Never, UNRULED, node.a)
         }
-        1 => {
+        VARIABLE => {
             let node = unpacked(packed);
-            let used = fields(table, planes, visit, node, 100);
-            settled(used, table, planes, visit, node, UNFLAGGED, UNRULED, node.a)
+            let used = fields(table, planes, visit, node, Variable, Unnamed, Unnamed);
+            settled(used, table, planes, visit, node, Unflagged, UNRULED, node.a)
         }
-        2 | 23 => {
+        OWN_NUMBER | BARRIER => {
             let node = unpacked(packed);
-            let used = fields(table, planes, visit, node, 0);
-            settled(used, table, planes, visit, node, ALWAYS, UNRULED, node.a)
+            let used = fields(table, planes, visit, node, Unnamed, Unnamed, Unnamed);
+            settled(used, table, planes, visit, node, Always, UNRULED, node.a)
         }
-        3 | 16 => {
+        PROCESS_COUNT | NOTHING => {
             let node = unpacked(packed);
-            let used = fields(table, planes, visit, node, 0);
-            settled(used, table, planes, visit, node, NEVER, UNRULED, node.a)
+            let used = fields(table, planes, visit, node, Unnamed, Unnamed, Unnamed);
+            settled(used, table, planes, visit, node, Never, UNRULED, node.a)
         }
-        4 => {
+        DOOR => {
             let node = unpacked(packed);
-            let used = fields(table, planes, visit, node, 200);
-            settled(used, table, planes, visit, node, ALWAYS, UNRULED, node.a)
+            let used = fields(table, planes, visit, node, Expression, Unnamed, Unnamed);
+            settled(used, table, planes, visit, node, Always, UNRULED, node.a)
         }
-        5 => {
+        SLOT => {
             let node = unpacked(packed);
-            let used = fields(table, planes, visit, node, 260);
-            settled(used, table, planes, visit, node, OF_A, UNRULED, node.a)
+            let used = fields(table, planes, visit, node, Expression, Area, Unnamed);
+            settled(used, table, planes, visit, node, OfA, UNRULED, node.a)
         }
-        6 | 7 | 8 | 9 | 10 | 11 | 12 => {
+        SUM | DIFFERENCE | PRODUCT | QUOTIENT | LESS | EQUAL | BOTH => {
             let node = unpacked(packed);
-            let used = fields(table, planes, visit, node, 220);
-            settled(used, table, planes, visit, node, OF_A_OR_B, UNRULED, node.a)
+            let used = fields(table, planes, visit, node, Expression, Expression, Unnamed);
+            settled(used, table, planes, visit, node, OfAOrB, UNRULED, node.a)
         }
-        17 => {
+        ASSIGN => {
             let node = unpacked(packed);
-            let used = fields(table, planes, visit, node, 120);
-            settled(used, table, planes, visit, node, FLAGGED, 13, node.b)
+            let used = fields(table, planes, visit, node, Variable, Expression, Unnamed);
+            settled(used, table, planes, visit, node, Flagged, 13, node.b)
         }
-        18 => {
+        SEQUENCE => {
             let node = unpacked(packed);
-            let used = fields(table, planes, visit, node, 330);
-            settled(used, table, planes, visit, node, OF_A_OR_B, UNRULED, node.a)
+            let used = fields(table, planes, visit, node, Statement, Statement, Unnamed);
+            settled(used, table, planes, visit, node, OfAOrB, UNRULED, node.a)
         }
-        19 => {
+        BRANCH => {
             let node = unpacked(packed);
-            let used = fields(table, planes, visit, node, 233);
-            settled(used, table, planes, visit, node, OF_B_OR_C, 15, node.a)
+            let used = fields(table, planes, visit, node, Expression, Statement, Statement);
+            settled(used, table, planes, visit, node, OfBOrC, 15, node.a)
         }
-        20 => {
+        LOOP => {
             let node = unpacked(packed);
-            let used = fields(table, planes, visit, node, 230);
-            settled(used, table, planes, visit, node, OF_B, 16, node.a)
+            let used = fields(table, planes, visit, node, Expression, Statement, Unnamed);
+            settled(used, table, planes, visit, node, OfB, 16, node.a)
         }
-        21 => {
+        CALL => {
             let node = unpacked(packed);
-            let used = fields(table, planes, visit, node, 400);
-            settled(used, table, planes, visit, node, CALLED, UNRULED, node.a)
+            let used = fields(table, planes, visit, node, Procedure, Unnamed, Unnamed);
+            settled(used, table, planes, visit, node, Called, UNRULED, node.a)
         }
-        22 => {
+        LATCH => {
             let node = unpacked(packed);
-            let used = fields(table, planes, visit, node, 220);
-            settled(used, table, planes, visit, node, NEVER, UNRULED, node.a)
+            let used = fields(table, planes, visit, node, Expression, Expression, Unnamed);
+            settled(used, table, planes, visit, node, Never, UNRULED, node.a)
         }
-        24 => {
+        BROADCAST => {
             let node = unpacked(packed);
-            let used = fields(table, planes, visit, node, 122);
-            settled(used, table, planes, visit, node, ALWAYS, 14, node.c)
+            let used = fields(table, planes, visit, node, Variable, Expression, Expression);
+            settled(used, table, planes, visit, node, Always, 14, node.c)
         }
-        25 => {
+        EXCHANGE => {
             let node = unpacked(packed);
-            let used = fields(table, planes, visit, node, 260);
-            settled(used, table, planes, visit, node, ALWAYS, UNRULED, node.a)
+            let used = fields(table, planes, visit, node, Expression, Area, Unnamed);
+            settled(used, table, planes, visit, node, Always, UNRULED, node.a)
         }
-        26 => {
+        LEAVE => {
             let node = unpacked(packed);
-            let used = fields(table, planes, visit, node, 0);
+            let used = fields(table, planes, visit, node, Unnamed, Unnamed, Unnamed);
             note_leave(used, planes, visit.node);
-            settled(used, table, planes, visit, node, NEVER, UNRULED, node.a)
+            settled(used, table, planes, visit, node, Never, UNRULED, node.a)
         }
         _ => STUCK,
     }

@@ -10,13 +10,12 @@ use lib.ListN.{length, set, take, drop, length-set}
 use lib.Seq.{take_all, length-take-le}
 use Rattle.rules.specs.declared.Arrival.{Arrival}
 use Rattle.rules.specs.declared.Refusal.{Refusal}
-use Rattle.rules.specs.declared.Verdict.{Verdict}
-use Rattle.rules.specs.declared.Verdict.TheVariants.{Accepted, Refused}
-use Rattle.rules.specs.Answers.{◌then◌, refused}
+use Rattle.std.specs.Prelude.{Ok, Err}
+use Rattle.rules.specs.Answers.{Verdict, ◌then◌, refused}
 use Rattle.rules.specs.Arrivals.{arrival_size, with_arrival, each_arrival}
 use Rattle.rules.specs.Start.{question21}
 use Rattle.rules.specs.Process.{most_processes}
-use Rattle.records.specs.Held.{OnLent}
+use Rattle.records.specs.Held.{OnLent, ThroughWords}
 use Rattle.records.specs.Roll.{most_lent, lent_words, roll_words, lent_records, loaded, saved}
 use Rattle.records.proofs.RollLaws.{words-length, words-set}
 use Rattle.records.proofs.LendLaws.{loaded-words, saved-words, saved-same}
@@ -44,15 +43,9 @@ long_21 count roll l =
     ]
 
 -- a question whose answer is a refusal ends the row with a refusal
-pub then_refused : (v w : Verdict) → (r : Refusal) × (w ≡ Refused r) → (r : Refusal) × ((v then w) ≡ Refused r)
-then_refused Accepted w h = h
-then_refused (Refused r) w h = (r, refl)
-
--- what the core says of the words of k records, which are lent to it, is said of the array that holds them
-pub on_lent : (Says : List ℕ → List ℕ → Type 0) (lent after : List ℕ) (k n : ℕ) → k ≡ n → Says (take (arrival_size * k) lent) after
-    → OnLent Says n lent (after ++ drop (arrival_size * k) lent)
-on_lent Says lent after k n e said =
-    subst (λ (m : ℕ). OnLent Says m lent (after ++ drop (arrival_size * k) lent)) e (record { after = after; said = said; left = refl })
+pub then_refused : (v w : Verdict) → (r : Refusal) × (w ≡ Err r) → (r : Refusal) × ((v then w) ≡ Err r)
+then_refused (Ok _) w h = h
+then_refused (Err r) w h = (r, refl)
 
 -- What is said of a call, whatever it answers and leaves of the state: `Says before after` of the roll lent and as it is left.
 pub record Call (Says : List ℕ → List ℕ → Type 0) : Type 0 where
@@ -73,7 +66,7 @@ module _ (Says : List ℕ → List ℕ → Type 0) (call : Call Says) (records :
       let rest : List ℕ = drop (arrival_size * n) (loaded records n) in
       subst (Says (roll_words records))
       (new.1.1
-      ∙ sym (ap (λ (w : List ℕ). roll_words (saved w n records)) (on.left ∙ ap (λ (w : List ℕ). w ++ rest) new.1.1)
+      ∙ sym (ap (λ (w : List ℕ). roll_words (saved w n records)) (on.left_is ∙ ap (λ (w : List ℕ). w ++ rest) new.1.1)
       ∙ ap roll_words (saved-words new.0 records rest n new.1.0 e))) said'
 
   many : most_lent ≤ length records → OnLent Says most_lent (loaded records most_lent) words
@@ -86,7 +79,7 @@ module _ (Says : List ℕ → List ℕ → Type 0) (call : Call Says) (records :
       let rest : List ℕ = drop lent_words (loaded records most_lent) in
       let kept = call.long (take lent_words (loaded records most_lent)) on.after short on.said in
       subst (Says (roll_words records))
-      (sym (ap (λ (w : List ℕ). roll_words (saved w most_lent records)) (on.left ∙ ap (λ (w : List ℕ). w ++ rest) (kept.0 ∙ first))
+      (sym (ap (λ (w : List ℕ). roll_words (saved w most_lent records)) (on.left_is ∙ ap (λ (w : List ℕ). w ++ rest) (kept.0 ∙ first))
       ∙ ap roll_words (saved-same records rest most_lent l))) (kept.1 (roll_words records) long)
 
   pub through : OnLent Says (lent_records (length records)) (loaded records (lent_records (length records))) words
@@ -101,3 +94,11 @@ module _ (Says : List ℕ → List ℕ → Type 0) (call : Call Says) (records :
             subst (λ (n : ℕ). OnLent Says n (loaded records n) words → Says (roll_words records) (roll_words (saved words n records)))
             (sym e) (many (omega arith)) said
       ]
+
+-- what a call gives on the words of a roll is said of the roll, where it gives what is said of such a call
+pub through_words : (Says Told : List ℕ → List ℕ → Type 0) → Call Told → ((before after : List ℕ) → Says before after → Told before after)
+    → (roll left : List Arrival) → ThroughWords Says roll left → Told (roll_words roll) (roll_words left)
+through_words Says Told call tells roll left t =
+    let on : OnLent Told (lent_records (length roll)) (loaded roll (lent_records (length roll))) t.words
+    = record { after = t.said.after; said = tells _ _ t.said.said; left_is = t.said.left_is } in
+    subst (λ (r : List Arrival). Told (roll_words roll) (roll_words r)) (sym t.left_is) (through Told call roll t.words on)

@@ -8,11 +8,8 @@ use Prim.Native.Nat.{ℕ, ◌*◌, ◌<◌}
 use lib.Dec.{eqb}
 use lib.ListN.{length}
 use Rattle.rules.specs.declared.Refusal.{Refusal}
-use Rattle.rules.specs.declared.Verdict.{Verdict}
-use Rattle.rules.specs.declared.Verdict.TheVariants.{Accepted, Refused}
-use Rattle.rules.specs.declared.Stepped.{Stepped}
-use Rattle.rules.specs.declared.Stepped.TheVariants.{Refused as NotTaken}
-use Rattle.rules.specs.Answers.{◌then◌, refused}
+use Rattle.std.specs.Prelude.{Ok, Err}
+use Rattle.rules.specs.Answers.{Verdict, Stepped, ◌then◌, refused}
 use Rattle.rules.specs.Arrivals.{arrival_size, running, waiting, running_record, ended_record, with_arrival, status_at, all_at_one_node}
 use Rattle.rules.specs.Collective.{arrival_of, completed_state, released_roll}
 use Rattle.rules.specs.Evaluation.{Environment}
@@ -20,8 +17,7 @@ use Rattle.rules.specs.Process.{most_processes, environment, process_at, depth, 
 use Rattle.rules.proofs.ChoiceLaws.{bool_cases}
 use Rattle.rules.specs.Start.{question18, question19, question20, start_verdict, start_roll, started_by, Started, started}
 use Rattle.rules.specs.Step.{Outcome, processes_in, question22, question23, question24, team_verdict, step_verdict, moved, completed, arrived_at, step_running, step_taken, stepped_by, stepped}
-use Rattle.rules.specs.Table.{Program, decode}
-use Rattle.rules.specs.Table.{Collective, statement_at}
+use Rattle.rules.specs.Table.{Program, decode, Collective, statement_at}
 use Rattle.rules.specs.WellFormed.{well_formed}
 use Rattle.rules.specs.Run.{Team, after_turn, after_turns}
 use Rattle.rules.specs.Scheduling.{chosen_in, Served, served_by, served}
@@ -36,13 +32,13 @@ use Rattle.records.proofs.Recorded.{Recorded, recorded_with, recorded-each, long
 -- ---- a start
 module _ (table : List ℕ) (count : ℕ) (words state : List ℕ) where
   -- the refusal of every roll that is too long
-  long-start : (r : Refusal) × ((well_formed table then question18 count then question19 (decode table) count words then question20 count state then refused 21 0) ≡ Refused r)
+  long-start : (r : Refusal) × ((well_formed table then question18 count then question19 (decode table) count words then question20 count state then refused 21 0) ≡ Err r)
   long-start =
-      let last : (r : Refusal) × (refused 21 0 ≡ Refused r) = (record { number = 21; place = 0 }, refl) in
+      let last : (r : Refusal) × (refused 21 0 ≡ Err r) = (record { number = 21; place = 0 }, refl) in
       then_refused (well_formed table) _ (then_refused (question18 count) _ (then_refused (question19 (decode table) count words) _ (then_refused (question20 count state) _ last)))
 
   abbrev refused_start : List ℕ → Started
-  refused_start roll = record { answer = Refused long-start.0; state = state; roll = roll }
+  refused_start roll = record { answer = Err long-start.0; state = state; roll = roll }
 
   long-started : (roll : List ℕ) → arrival_size * most_processes < length roll → started table count words state roll ≡ refused_start roll
   unfolding started started_by start_verdict
@@ -52,8 +48,8 @@ module _ (table : List ℕ) (count : ℕ) (words state : List ℕ) where
 
   by-verdict : (v : Verdict) (n : ℕ) (roll : List ℕ) → Recorded n roll → Recorded n (started_by v (decode table) count words state roll).roll
   unfolding started_by start_roll
-  by-verdict Accepted n roll h = recorded-each n roll (λ p. running_record) count h
-  by-verdict (Refused r) n roll h = h
+  by-verdict (Ok _) n roll h = recorded-each n roll (λ p. running_record) count h
+  by-verdict (Err r) n roll h = h
 
   start-recorded : (n : ℕ) (roll : List ℕ) → Recorded n roll → Recorded n (started table count words state roll).roll
   unfolding started
@@ -72,12 +68,12 @@ module _ (table : List ℕ) (count : ℕ) (words state : List ℕ) where
 
 -- ---- a step
 module _ (table state : List ℕ) (p : ℕ) where
-  long-step : (r : Refusal) × ((well_formed table then refused 21 0) ≡ Refused r)
+  long-step : (r : Refusal) × ((well_formed table then refused 21 0) ≡ Err r)
   long-step =
-      let last : (r : Refusal) × (refused 21 0 ≡ Refused r) = (record { number = 21; place = 0 }, refl) in
+      let last : (r : Refusal) × (refused 21 0 ≡ Err r) = (record { number = 21; place = 0 }, refl) in
       then_refused (well_formed table) _ last
 
-  long-team : (roll : List ℕ) → arrival_size * most_processes < length roll → team_verdict table state roll p ≡ Refused long-step.0
+  long-team : (roll : List ℕ) → arrival_size * most_processes < length roll → team_verdict table state roll p ≡ Err long-step.0
   unfolding team_verdict
   long-team roll l =
       ap (λ (v : Verdict). well_formed table then v then question20 (processes_in roll) state then question22 (processes_in roll) p
@@ -85,7 +81,7 @@ module _ (table state : List ℕ) (p : ℕ) where
       ∙ long-step.1
 
   abbrev refused_step : List ℕ → Outcome
-  refused_step roll = record { answer = NotTaken long-step.0; state = state; roll = roll }
+  refused_step roll = record { answer = Err long-step.0; state = state; roll = roll }
 
   long-stepped : (roll : List ℕ) → arrival_size * most_processes < length roll → stepped table state roll p ≡ refused_step roll
   unfolding stepped stepped_by step_verdict
@@ -129,8 +125,8 @@ module _ (n : ℕ) where
 
   by-step_verdict : (v : Verdict) (program : Program) (state roll : List ℕ) (p : ℕ) → Recorded n roll → Keeps (stepped_by v program state roll p)
   unfolding stepped_by
-  by-step_verdict Accepted program state roll p h = taken-recorded program state roll (processes_in roll) p h
-  by-step_verdict (Refused r) program state roll p h = h
+  by-step_verdict (Ok _) program state roll p h = taken-recorded program state roll (processes_in roll) p h
+  by-step_verdict (Err r) program state roll p h = h
 
   step-recorded : (table state roll : List ℕ) (p : ℕ) → Recorded n roll → Keeps (stepped table state roll p)
   unfolding stepped
@@ -157,7 +153,7 @@ module _ (table : List ℕ) where
 
   module _ (state : List ℕ) (last turns : ℕ) where
     abbrev refused_serving : List ℕ → Served
-    refused_serving roll = record { made = 0; last = last; answer = Refused (long-step table state last).0; state = state; roll = roll }
+    refused_serving roll = record { made = 0; last = last; answer = Err (long-step table state last).0; state = state; roll = roll }
 
     long-served : (roll : List ℕ) → arrival_size * most_processes < length roll → served table state roll last turns ≡ refused_serving roll
     unfolding served served_by

@@ -2,22 +2,23 @@
 // the records are loaded into an array of words, which is lent to the core, and saved from it.
 #![tactic(auto)]
 
-ghost use Rattle.std.specs.Prelude.{◌≡◌, ◌+◌, ◌*◌, ◌<◌, length, take, drop};
-ghost use Rattle.rules.specs.Arrivals.{with_arrival};
+ghost use Rattle.std.specs.Prelude.{◌≡◌, length, min, take, drop};
 ghost use Rattle.rules.specs.Scheduling.{served};
 ghost use Rattle.rules.specs.Start.{started};
 ghost use Rattle.rules.specs.Step.{stepped};
-ghost use Rattle.collectives.specs.Given.{arrival_at};
 ghost use Rattle.machine.specs.Layout.{Starts};
 ghost use Rattle.machine.specs.Outcomes.{Gives};
 ghost use Rattle.scheduler.specs.Serving.{Serves};
-ghost use Rattle.records.specs.Roll.{most_lent, roll_words, lent_records, loaded, saved};
-ghost use Rattle.records.specs.Held.{OnLent, start_records, step_records};
+ghost use Rattle.rules.specs.Process.{most_processes};
+ghost use Rattle.records.specs.Roll.{roll_words, lent_records, loaded, saved};
+ghost use Rattle.records.specs.Held.{GivesTwo, ThroughWords, OnFirst};
 
-use rules::layout::{ARRIVAL_WORDS, MOST_PROCESSES, lesser};
+use collectives::arrivals::{read, write};
+use rules::layout::{ARRIVAL_WORDS, MOST_PROCESSES};
 use rules::{Arrival, Stepped, Verdict};
 use scheduler::Service;
 // A host sees a process's latches through the team.
+use machine::team;
 pub use machine::team::latches;
 
 // Of a roll of too many records, one more than the most is lent to the core.
@@ -25,73 +26,39 @@ const MOST_LENT: usize = MOST_PROCESSES + 1;
 
 const LENT_WORDS: usize = ARRIVAL_WORDS * MOST_LENT;
 
-fn placed(words: [u32; LENT_WORDS], p: usize, arrival: Arrival) -> [u32; LENT_WORDS]
-    requires { p < most_lent }
-    ensures { result ≡ with_arrival words p arrival }
-{
-    let mut after = words;
-    collectives::arrivals::write(&mut after, p, arrival);
-    after
-}
-
-fn record_at(words: [u32; LENT_WORDS], p: usize) -> Arrival
-    requires { p < most_lent }
-    ensures { result ≡ arrival_at words p }
-{
-    collectives::arrivals::read(&words, p)
-}
-
 // The words of the roll's first records. A roll of too many is refused for its length: those lent say as much.
 fn load(roll: &[Arrival]) -> [u32; LENT_WORDS]
     ensures { result ≡ loaded roll.now (lent_records (length roll.now)) }
 {
     let mut words = [0; LENT_WORDS];
-    let count = lesser(roll.len(), MOST_LENT);
-    let mut p = 0;
-    while p < count {
-        // In two steps: the borrow checker does not cover a call whose answer is laid in an array that is there.
-        let after = placed(words, p, roll[p]);
-        words = after;
-        p += 1;
+    for p in 0..roll.len().min(MOST_LENT) {
+        write(&mut words, p, roll[p]);
     }
     words
 }
 
-fn save(roll: &mut [Arrival], words: [u32; LENT_WORDS])
-    ensures { roll.new ≡ saved words (lent_records (length roll.old)) roll.old }
+fn save(roll: &mut [Arrival], words: &[u32; LENT_WORDS])
+    ensures { roll.new ≡ saved words.now (lent_records (length roll.old)) roll.old }
 {
-    let count = lesser(roll.len(), MOST_LENT);
-    let mut p = 0;
-    while p < count {
-        roll[p] = record_at(words, p);
-        p += 1;
+    for p in 0..roll.len().min(MOST_LENT) {
+        roll[p] = read(words, p);
     }
 }
 
-// A start's answer, and the words lent to it as it leaves them.
-#[derive(Clone, Copy)]
-struct StartAnswer {
-    answer: Verdict,
-    roll: [u32; LENT_WORDS],
-}
-
-// The core's start on the words of `records` records.
-fn start_words(
-    table: &[u8],
-    processes: u32,
-    words: &[u32],
+// A call of the core on the words of a roll lent as records.
+fn through_words<A, F: FnOnce(&mut [u32], &mut [u32]) -> A>(
     state: &mut [u32],
-    lent: [u32; LENT_WORDS],
-    records: usize,
-) -> StartAnswer
-    ensures { OnLent (λ before after. Starts
-        (started table.now processes words.now state.old before)
-        result.answer state.new after) (lent_records records) lent result.roll }
+    roll: &mut [Arrival],
+    call: F,
+) -> A
+    requires { F.IsAlwaysCallable call }
+    ensures { ThroughWords (λ before after. GivesTwo F.FnOnce call state.old before result state.new after) roll.old roll.new }
 {
-    let mut roll = lent;
-    let end = ARRIVAL_WORDS * lesser(records, MOST_LENT);
-    let answer = machine::team::start(table, processes, words, state, &mut roll[..end]);
-    StartAnswer { answer, roll }
+    let mut words = load(roll);
+    let end = ARRIVAL_WORDS * roll.len().min(MOST_LENT);
+    let answer = call(state, &mut words[..end]);
+    save(roll, &words);
+    answer
 }
 
 // A start whose roll is lent as records.
@@ -106,35 +73,9 @@ pub fn start(
         (started table.now processes words.now state.old (roll_words roll.old))
         result state.new (roll_words roll.new) }
 {
-    let records = roll.len();
-    let lent = load(roll);
-    let after = start_words(table, processes, words, state, lent, records);
-    save(roll, after.roll);
-    after.answer
-}
-
-// A step's answer, and the words lent to it as it leaves them.
-#[derive(Clone, Copy)]
-struct StepAnswer {
-    answer: Stepped,
-    roll: [u32; LENT_WORDS],
-}
-
-// The core's step on the words of `records` records.
-fn step_words(
-    table: &[u8],
-    state: &mut [u32],
-    lent: [u32; LENT_WORDS],
-    records: usize,
-    process: u32,
-) -> StepAnswer
-    ensures { OnLent (λ before after. Gives (stepped table.now state.old before process)
-        result.answer state.new after) (lent_records records) lent result.roll }
-{
-    let mut roll = lent;
-    let end = ARRIVAL_WORDS * lesser(records, MOST_LENT);
-    let answer = machine::team::step(table, state, &mut roll[..end], process);
-    StepAnswer { answer, roll }
+    through_words(state, roll, |state, lent| {
+        team::start(table, processes, words, state, lent)
+    })
 }
 
 // A step whose roll is lent as records.
@@ -142,36 +83,9 @@ pub fn step(table: &[u8], state: &mut [u32], roll: &mut [Arrival], process: u32)
     ensures { Gives (stepped table.now state.old (roll_words roll.old) process)
         result state.new (roll_words roll.new) }
 {
-    let records = roll.len();
-    let lent = load(roll);
-    let after = step_words(table, state, lent, records, process);
-    save(roll, after.roll);
-    after.answer
-}
-
-// A service's answer, and the words lent to it as it leaves them.
-#[derive(Clone, Copy)]
-struct ServeAnswer {
-    answer: Service,
-    roll: [u32; LENT_WORDS],
-}
-
-// The core's serving on the words of `records` records.
-fn serve_words(
-    table: &[u8],
-    state: &mut [u32],
-    lent: [u32; LENT_WORDS],
-    records: usize,
-    last: u32,
-    turns: u32,
-) -> ServeAnswer
-    ensures { OnLent (λ before after. Serves (served table.now state.old before last turns)
-        result.answer state.new after) (lent_records records) lent result.roll }
-{
-    let mut roll = lent;
-    let end = ARRIVAL_WORDS * lesser(records, MOST_LENT);
-    let answer = scheduler::serve(table, state, &mut roll[..end], last, turns);
-    ServeAnswer { answer, roll }
+    through_words(state, roll, |state, lent| {
+        team::step(table, state, lent, process)
+    })
 }
 
 // Turns shared fairly, where the roll is lent as records.
@@ -185,24 +99,36 @@ pub fn serve(
     ensures { Serves (served table.now state.old (roll_words roll.old) last turns)
         result state.new (roll_words roll.new) }
 {
-    let records = roll.len();
-    let lent = load(roll);
-    let after = serve_words(table, state, lent, records, last, turns);
-    save(roll, after.roll);
-    after.answer
+    through_words(state, roll, |state, lent| {
+        scheduler::serve(table, state, lent, last, turns)
+    })
 }
 
-// A start's answer, and the team's records as it leaves them.
+// What a call on a team's records answers, and the records as it leaves them.
 #[derive(Clone, Copy)]
-pub struct StartRecords {
-    pub answer: Verdict,
+pub struct OnRecords<A> {
+    pub answer: A,
     pub roll: [Arrival; MOST_PROCESSES],
 }
 
-fn started_records(answer: Verdict, roll: [Arrival; MOST_PROCESSES]) -> StartRecords
-    ensures { result ≡ start_records answer roll }
+// A call on the first `count` records of a team that holds them by value; the others stay.
+fn on_first<A, F: FnOnce(&mut [u32], &mut [Arrival]) -> A>(
+    state: &mut [u32],
+    roll: [Arrival; MOST_PROCESSES],
+    count: usize,
+    call: F,
+) -> OnRecords<A>
+    requires { F.IsAlwaysCallable call }
+    ensures { OnFirst (λ before after. GivesTwo F.FnOnce call state.old before result.answer state.new after)
+        (min count most_processes) roll result.roll }
 {
-    StartRecords { answer, roll }
+    let mut records = roll;
+    let lent = count.min(MOST_PROCESSES);
+    let answer = call(state, &mut records[..lent]);
+    OnRecords {
+        answer,
+        roll: records,
+    }
 }
 
 // A start of a team whose records are held by value: the first `count` are lent to `start`, the others stay.
@@ -213,29 +139,15 @@ pub fn start_on(
     state: &mut [u32],
     roll: [Arrival; MOST_PROCESSES],
     count: usize,
-) -> StartRecords
+) -> OnRecords<Verdict>
     ensures { Starts
         (started table.now processes words.now state.old (roll_words (take count roll)))
         result.answer state.new (roll_words (take count result.roll))
         × (drop count result.roll ≡ drop count roll) }
 {
-    let mut records = roll;
-    let lent = lesser(count, MOST_PROCESSES);
-    let answer = start(table, processes, words, state, &mut records[..lent]);
-    started_records(answer, records)
-}
-
-// A step's answer, and the team's records as it leaves them.
-#[derive(Clone, Copy)]
-pub struct StepRecords {
-    pub answer: Stepped,
-    pub roll: [Arrival; MOST_PROCESSES],
-}
-
-fn stepped_records(answer: Stepped, roll: [Arrival; MOST_PROCESSES]) -> StepRecords
-    ensures { result ≡ step_records answer roll }
-{
-    StepRecords { answer, roll }
+    on_first(state, roll, count, |state, lent| {
+        start(table, processes, words, state, lent)
+    })
 }
 
 // A step of a team whose records are held by value: the first `count` are lent to `step`, the others stay.
@@ -245,13 +157,12 @@ pub fn step_on(
     roll: [Arrival; MOST_PROCESSES],
     count: usize,
     process: u32,
-) -> StepRecords
+) -> OnRecords<Stepped>
     ensures { Gives (stepped table.now state.old (roll_words (take count roll)) process)
         result.answer state.new (roll_words (take count result.roll))
         × (drop count result.roll ≡ drop count roll) }
 {
-    let mut records = roll;
-    let lent = lesser(count, MOST_PROCESSES);
-    let answer = step(table, state, &mut records[..lent], process);
-    stepped_records(answer, records)
+    on_first(state, roll, count, |state, lent| {
+        step(table, state, lent, process)
+    })
 }

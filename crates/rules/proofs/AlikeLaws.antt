@@ -2,8 +2,8 @@
 use mathlib.Core.List.{List, [], ◌∷◌}
 use mathlib.Core.Path.{◌≡◌, refl}
 use Prim.Native.Nat.{ℕ, zero, suc}
-use Rattle.rules.specs.declared.Verdict.{Verdict}
-use Rattle.rules.specs.declared.Verdict.TheVariants.{Accepted, Refused}
+use Rattle.std.specs.Prelude.{Ok, Err}
+use Rattle.rules.specs.Answers.{Verdict}
 use Rattle.rules.specs.Acceptance.{checked}
 use Rattle.rules.specs.Alike.{AnsweredAlike}
 use Rattle.rules.specs.Run.{Team, after_turn, after_turns, answers}
@@ -51,8 +51,8 @@ module _ (table other : List ℕ) (formed : well_formed table ≡ well_formed ot
     where
       by : (v : Verdict) → served_by v table (record { state = state; roll = roll }) last turns
           ≡ served_by v other (record { state = state; roll = roll }) last turns
-      by Accepted = serving_alike turns 0 last (record { state = state; roll = roll })
-      by (Refused r) = refl
+      by (Ok _) = serving_alike turns 0 last (record { state = state; roll = roll })
+      by (Err r) = refl
 
 pub answered_alike : AnsweredAlike
 answered_alike table other formed same =

@@ -6,8 +6,8 @@ use native.Mathlib.Omega.{arith}
 use lib.Dec.{eqb}
 use lib.ListN.{length, set}
 use lib.Seq.{sets}
-use Rattle.rules.specs.declared.Verdict.{Verdict}
-use Rattle.rules.specs.declared.Verdict.TheVariants.{Accepted, Refused}
+use Rattle.std.specs.Prelude.{Ok, Err}
+use Rattle.rules.specs.Answers.{Verdict}
 use Rattle.rules.specs.Arrivals.{running, status_at, arrival_value}
 use Rattle.rules.specs.Below.{below}
 use Rattle.rules.specs.Buffered.{buffer, buffered_state, buffered_completed, buffered_arrived, buffered_running, buffered_by, buffered_step}
@@ -67,10 +67,10 @@ module _ (program : Program) (state roll : List ℕ) (p : ℕ) where
 
   buffered_by_lem : (verdict : Verdict) → buffered_by verdict program state roll p ≡ stepped_by verdict program state roll p
   unfolding buffered_by stepped_by step_taken
-  buffered_by_lem Accepted =
+  buffered_by_lem (Ok _) =
       by-test (λ (o : Outcome). o ≡ step_taken program state roll count p) (eqb (status_at roll p) running) _ _
       (λ e. rw e buffered_running_lem) (λ e. refl)
-  buffered_by_lem (Refused r) = refl
+  buffered_by_lem (Err r) = refl
 
 pub same_as_buffered : SameAsBuffered
 unfolding buffered_step stepped

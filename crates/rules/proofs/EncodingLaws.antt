@@ -13,7 +13,7 @@ use lib.Pow.{field, mod-mod-pow}
 use lib.Seq.{get_or-append-add}
 use borrow.Author.Tests.{lt-ltb, le-ltb, leb-true}
 use Rattle.rules.specs.declared.Node.{Node}
-use Rattle.rules.specs.declared.Verdict.TheVariants.{Accepted}
+use Rattle.rules.specs.Answers.{Accepted}
 use Rattle.rules.specs.Encoding.{word_bytes, header_word, flag_bits, body_word, packed, word_of, encode, Encodable, DecodeEncode}
 use Rattle.rules.specs.Encoding.{Bounded, reflagged}
 use Rattle.rules.specs.Evaluation.{bit}

@@ -12,21 +12,17 @@ use lib.ListN.{length, take, drop}
 use borrow.Author.Tests.{eq-eqb, ltb-true, lt-ltb}
 use Rattle.rules.specs.declared.Answer.{Answer}
 use Rattle.rules.specs.declared.Refusal.{Refusal}
-use Rattle.rules.specs.declared.Stepped.{Stepped}
-use Rattle.rules.specs.declared.Stepped.TheVariants.{Taken, Refused}
-use Rattle.rules.specs.declared.Verdict.{Verdict}
-use Rattle.rules.specs.declared.Verdict.TheVariants.{Accepted, Refused as Failed}
-use Rattle.rules.specs.Answers.{refused}
+use Rattle.std.specs.Prelude.{Ok, Err}
+use Rattle.rules.specs.Answers.{Verdict, Stepped, Accepted, refused}
 use Rattle.rules.specs.Arrivals.{running, waiting, status_at, ended_record}
 use Rattle.rules.specs.Collective.{released_roll}
 use Rattle.rules.specs.Run.{Team, turn, after_turn, after_turns}
 use Rattle.rules.specs.Scheduling.{place_after, passed_over, some_runs, next_process, Served, if_taken, serving}
 use Rattle.rules.specs.Scheduling.{chosen, chosen_by, chosen_in, last_of, Worked, next_turns, StaysRunning, FairlyServed}
-use Rattle.rules.specs.WellFormed.{Occurs}
+use Rattle.rules.specs.WellFormed.{Occurs, well_formed}
 use Rattle.rules.specs.Start.{question20, question21}
 use Rattle.rules.specs.Step.{Outcome, processes_in, question22, completed, step_running, step_taken}
 use Rattle.rules.specs.Step.{team_verdict, step_verdict, stepped_by, stepped}
-use Rattle.rules.specs.WellFormed.{well_formed}
 use Rattle.rules.proofs.AnswerLaws.{then_first, then_rest}
 use Rattle.rules.proofs.ArrivalLaws.{with_arrival-length, each_arrival-length}
 use Rattle.rules.proofs.ChoiceLaws.{first-passed}
@@ -60,8 +56,8 @@ module _ (table state roll : List ℕ) (count p : ℕ) where
 module _ (table state roll : List ℕ) (p : ℕ) where
   by_keeps : (v : Verdict) → length (stepped_by v (decode table) state roll p).roll ≡ length roll
   unfolding stepped_by
-  by_keeps Accepted = taken_keeps table state roll (processes_in roll) p
-  by_keeps (Failed r) = refl
+  by_keeps (Ok _) = taken_keeps table state roll (processes_in roll) p
+  by_keeps (Err r) = refl
 
   pub step_keeps : length (stepped table state roll p).roll ≡ length roll
   unfolding stepped
@@ -123,8 +119,8 @@ module _ (roll : List ℕ) (count last d p : ℕ) (l : p < count) (away : Away c
 
 -- a turn that was not idle was taken
 if_worked : {A : Type 0} (s : Stepped) → Worked s → (go_on : A) (stop : Refusal → A) → if_taken s go_on stop ≡ go_on
-if_worked (Taken a) w go_on stop = refl
-if_worked (Refused r) w go_on stop = absurd (not-refused (Refused r) w r refl)
+if_worked (Ok a) w go_on stop = refl
+if_worked (Err r) w go_on stop = absurd (not-refused (Err r) w r refl)
 
 module _ (table : List ℕ) (count p : ℕ) (l : p < count) where
   -- a point of a call: a last process of the team's, and p runs
@@ -219,7 +215,7 @@ module _ (table : List ℕ) (count : ℕ) where
       }
 
   module _ (turns before last : ℕ) (team : Team) (a : Answer) (some : some_runs team.roll last ≡ true)
-      (e : (turn table team (next_process team.roll last)).answer ≡ Taken a) (end : Served) (list : List ℕ)
+      (e : (turn table team (next_process team.roll last)).answer ≡ Ok a) (end : Served) (list : List ℕ)
       (later : Later turns (suc before) (next_process team.roll last) (after_turn table team (next_process team.roll last)) end list) where
     whole-taken : next_process team.roll last ∷ list ≡ chosen table (suc turns) last team
     unfolding chosen
@@ -287,8 +283,8 @@ module _ (table : List ℕ) (team : Team) (last turns i p : ℕ) (l : p < proces
   -- by the answer to a call's questions
   fair_by : (v : Verdict) → v ≡ Accepted → last < processes_in team.roll → FairIn (chosen_by v table team last turns)
   unfolding chosen_by
-  fair_by Accepted e m = fair_chosen m
-  fair_by (Failed r) e m = let z : ◌≡◌ {A = ℕ} 0 1 = cc in absurd (omega arith)
+  fair_by (Ok _) e m = fair_chosen m
+  fair_by (Err r) e m = let z : ◌≡◌ {A = ℕ} 0 1 = cc in absurd (omega arith)
 
 pub fairly_served : FairlyServed
 unfolding chosen_in

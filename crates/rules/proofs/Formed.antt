@@ -8,10 +8,9 @@ use native.Mathlib.Omega.{arith}
 use lib.Dec.{leb, ltb, eqb}
 use lib.ListN.{length, get_or, get_or-eq_default}
 use borrow.Author.Tests.{leb-true, ltb-true, eqb-true}
-use Rattle.rules.specs.declared.Verdict.TheVariants.{Accepted}
-use Rattle.rules.specs.Table.{Program, decode}
+use Rattle.rules.specs.Answers.{Accepted}
+use Rattle.rules.specs.Table.{Program, decode, constant, nothing, leave, expression_of, statement_of, expression_at, statement_at}
 use Rattle.rules.specs.Table.{word_at, edition, variables, procedures, nodes, procedure_word, body, unpacked, node_at}
-use Rattle.rules.specs.Table.{constant, nothing, leave, expression_of, statement_of, expression_at, statement_at}
 use Rattle.rules.specs.WellFormed.{question2, question3, question4, question5, question6, question7, question8}
 use Rattle.rules.specs.WellFormed.{question9, question10, question11, question26, header_fits, procedure_fits}
 use Rattle.rules.specs.WellFormed.{is_statement, kind_known, unnamed_zero, node_fits, expression_fits, statement_fits}

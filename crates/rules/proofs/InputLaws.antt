@@ -9,9 +9,8 @@ use native.Mathlib.Omega.{arith}
 use lib.Dec.{leb, eqb}
 use lib.ListN.{length, length-append, length-drop}
 use borrow.Author.Tests.{leb-true, eqb-true, eq-eqb, le-leb}
-use Rattle.rules.specs.declared.Verdict.{Verdict}
-use Rattle.rules.specs.declared.Verdict.TheVariants.{Accepted, Refused}
-use Rattle.rules.specs.Answers.{◌then◌}
+use Rattle.std.specs.Prelude.{Ok, Err}
+use Rattle.rules.specs.Answers.{Verdict, Accepted, ◌then◌}
 use Rattle.rules.specs.Arrivals.{arrival_size}
 use Rattle.rules.specs.Evaluation.{doors}
 use Rattle.rules.specs.Input.{most_input_bytes, question25, run_behind, serve_behind, behind, words_of, words_taken, words_exactly}
@@ -60,17 +59,17 @@ few processes e =
 
 -- what is bound to hold after a question plays no part
 last-held : (u v w x : Verdict) → (v ≡ Accepted → x ≡ Accepted) → (u then v then w then x) ≡ (u then v then w)
-last-held (Refused r) v w x h = refl
-last-held Accepted (Refused r) w x h = refl
-last-held Accepted Accepted (Refused r) x h = refl
-last-held Accepted Accepted Accepted x h = h refl
+last-held (Err r) v w x h = refl
+last-held (Ok _) (Err r) w x h = refl
+last-held (Ok _) (Ok _) (Err r) x h = refl
+last-held (Ok _) (Ok _) (Ok _) x h = h refl
 
 -- a start on state and roll of the size that a program lends asks no more than the program
 module _ (table : List ℕ) (processes : ℕ) (words state roll : List ℕ) (lent : Lent processes state roll) where
   answer-is : (v : Verdict) → (started_by v (decode table) processes words state roll).answer ≡ v
   unfolding started_by
-  answer-is Accepted = refl
-  answer-is (Refused r) = refl
+  answer-is (Ok _) = refl
+  answer-is (Err r) = refl
 
   sizes : question18 processes ≡ Accepted → (question20 processes state then question21 processes roll) ≡ Accepted
   sizes e =

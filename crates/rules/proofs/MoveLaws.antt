@@ -9,8 +9,8 @@ use lib.Dec.{leb, eqb}
 use lib.ListN.{length}
 use borrow.Author.Tests.{eqb-true, eq-eqb}
 use Rattle.rules.specs.declared.Arrival.{Arrival}
-use Rattle.rules.specs.declared.Verdict.{Verdict}
-use Rattle.rules.specs.declared.Verdict.TheVariants.{Accepted, Refused as Failed}
+use Rattle.std.specs.Prelude.{Ok, Err}
+use Rattle.rules.specs.Answers.{Verdict, Accepted}
 use Rattle.rules.specs.Arrivals.{arrival_size, running, waiting, status_number, running_record, ended_record}
 use Rattle.rules.specs.Arrivals.{status_at, arrival_node, arrival_value, arrival_source, SameRecord, with_arrival, all_at_one_node}
 use Rattle.rules.specs.Collective.{arrival_of, completed_state, released_roll}
@@ -185,8 +185,8 @@ module _ (table state roll : List ℕ) (p q : ℕ) (m : q < processes_in roll) w
   by-kept : (v : Verdict) → (v ≡ Accepted → Asked table state roll (processes_in roll) p)
       → Kept roll q (stepped_by v (decode table) state roll p).roll
   unfolding stepped_by
-  by-kept Accepted a = taken-kept (a refl)
-  by-kept (Failed r) a = unmoved roll q
+  by-kept (Ok _) a = taken-kept (a refl)
+  by-kept (Err r) a = unmoved roll q
 
 pub only-moves : OnlyMoves
 unfolding stepped

@@ -11,7 +11,7 @@ use lib.Dec.{eqb}
 use lib.ListN.{length}
 use borrow.Author.Tests.{eq-eqb, ne_eqb}
 use Rattle.rules.specs.declared.Arrival.{Arrival}
-use Rattle.rules.specs.declared.Stepped.{Stepped}
+use Rattle.rules.specs.Answers.{Stepped}
 use Rattle.rules.specs.Arrivals.{running, waiting, status_number, running_record, ended_record}
 use Rattle.rules.specs.Arrivals.{status_at, arrival_node, with_arrival, all_at_one_node}
 use Rattle.rules.specs.Collective.{arrival_of, completed_state, released_roll}

@@ -10,7 +10,7 @@ use native.Mathlib.Nat.{zero-add}
 use native.Mathlib.Omega.{arith}
 use lib.ListN.{length}
 use borrow.Author.Tests.{le-ltb}
-use Rattle.rules.specs.declared.Verdict.TheVariants.{Accepted}
+use Rattle.rules.specs.Answers.{Accepted}
 use Rattle.rules.specs.Arrivals.{running_record, team_status}
 use Rattle.rules.specs.Order.{worked_in_all, Over, EndsAfter, SameStart, Says, EndingSaid, ServedOrderFree, ServedToEnd, TurnsEnough}
 use Rattle.rules.specs.Run.{Team, turn, after_turn, after_turns, answers, start_team}

@@ -9,8 +9,8 @@ use native.Mathlib.Omega.{arith}
 use lib.ListN.{length}
 use borrow.Author.Tests.{lt-ltb, le-ltb}
 use Rattle.rules.specs.declared.Refusal.{Refusal}
-use Rattle.rules.specs.declared.Stepped.TheVariants.{Refused}
-use Rattle.rules.specs.declared.Verdict.TheVariants.{Accepted}
+use Rattle.std.specs.Prelude.{Err}
+use Rattle.rules.specs.Answers.{Accepted}
 use Rattle.rules.specs.Arrivals.{running, arrival_size, status_at}
 use Rattle.rules.specs.Run.{Team, after_turn, after_turns, start_team}
 use Rattle.rules.specs.Scheduling.{some_runs, next_process, Served, serving, served_by, served, chosen_in}
@@ -36,7 +36,7 @@ module _ (table : List ℕ) (count : ℕ) where
   next_low roll last sized some = rw (processes_in_lem roll count sized) at (next-below roll last some)
 
   no_refusal : (state roll : List ℕ) (last : ℕ) (r : Refusal) → Sound table count state roll → some_runs roll last ≡ true
-      → (stepped table state roll (next_process roll last)).answer ≡ Refused r → ⊥
+      → (stepped table state roll (next_process roll last)).answer ≡ Err r → ⊥
   no_refusal state roll last r now some =
       not-refused _
       (running-taken state roll (next_process roll last) now (next_low roll last now.stands.team.roll-sized some)

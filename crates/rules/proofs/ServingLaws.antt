@@ -13,19 +13,15 @@ use Rattle.rules.specs.declared.Answer.{Answer}
 use Rattle.rules.specs.declared.Event.{Event}
 use Rattle.rules.specs.declared.Event.TheVariants.{Moved, Finished, Arrived, Completed, Waiting, Ended}
 use Rattle.rules.specs.declared.Refusal.{Refusal}
-use Rattle.rules.specs.declared.Stepped.{Stepped}
-use Rattle.rules.specs.declared.Stepped.TheVariants.{Taken, Refused}
-use Rattle.rules.specs.declared.Verdict.{Verdict}
-use Rattle.rules.specs.declared.Verdict.TheVariants.{Accepted, Refused as Failed}
-use Rattle.rules.specs.Answers.{event_number}
+use Rattle.std.specs.Prelude.{Ok, Err}
+use Rattle.rules.specs.Answers.{Verdict, Stepped, Accepted, event_number}
 use Rattle.rules.specs.Arrivals.{running, status_at}
 use Rattle.rules.specs.Process.{process_at, top}
 use Rattle.rules.specs.Run.{Team, turn, after_turn, after_turns, answers}
 use Rattle.rules.specs.Scheduling.{place_after, passed_over, some_runs, next_process, Served, stopped_at, if_taken, serving}
 use Rattle.rules.specs.Scheduling.{served_by, served, chosen, chosen_by, chosen_in, last_of}
 use Rattle.rules.specs.Scheduling.{event_turns, answer_turns, Worked, AllWorked, Stopped, AsSingleTurns, ServedAsSingleTurns, ServesOn}
-use Rattle.rules.specs.Step.{processes_in, completed, step_running, step_taken, step_verdict}
-use Rattle.rules.specs.Step.{team_verdict, stepped_by, stepped}
+use Rattle.rules.specs.Step.{processes_in, completed, step_running, step_taken, step_verdict, team_verdict, stepped_by, stepped}
 use Rattle.rules.proofs.ChoiceLaws.{first-fails}
 use Rattle.rules.proofs.TurnCases.{by-step}
 use Rattle.rules.specs.Table.{decode}
@@ -68,7 +64,7 @@ module _ (table state roll : List ℕ) (count p : ℕ) where
   unfolding step_taken
   taken-worked e = rw e running-worked
 
-pub not-refused : (s : Stepped) → Worked s → (r : Refusal) → s ≡ Refused r → ⊥
+pub not-refused : (s : Stepped) → Worked s → (r : Refusal) → s ≡ Err r → ⊥
 not-refused s w r e = rw e at w
 
 -- and it counts as one turn
@@ -81,26 +77,26 @@ event-worked Waiting w e = absurd (w refl)
 event-worked Ended w e = absurd (e refl)
 
 pub worked-counts : (s : Stepped) → Worked s → answer_turns s ≡ 1
-worked-counts (Taken a) w = event-worked a.event w.0 w.1
-worked-counts (Refused r) w = absurd w
+worked-counts (Ok a) w = event-worked a.event w.0 w.1
+worked-counts (Err r) w = absurd w
 
 module _ (table state roll : List ℕ) (p : ℕ) (runs : status_at roll p ≡ running) where
-  by-verdict : (v : Verdict) (a : Answer) → (stepped_by v (decode table) state roll p).answer ≡ Taken a → Worked (stepped_by v (decode table) state roll p).answer
+  by-verdict : (v : Verdict) (a : Answer) → (stepped_by v (decode table) state roll p).answer ≡ Ok a → Worked (stepped_by v (decode table) state roll p).answer
   unfolding stepped_by
-  by-verdict Accepted a e = taken-worked table state roll (processes_in roll) p runs
-  by-verdict (Failed r) a e = let z : ◌≡◌ {A = ℕ} 0 1 = cc in absurd (omega arith)
+  by-verdict (Ok _) a e = taken-worked table state roll (processes_in roll) p runs
+  by-verdict (Err r) a e = let z : ◌≡◌ {A = ℕ} 0 1 = cc in absurd (omega arith)
 
-  pub step-worked : (a : Answer) → (stepped table state roll p).answer ≡ Taken a → Worked (stepped table state roll p).answer
+  pub step-worked : (a : Answer) → (stepped table state roll p).answer ≡ Ok a → Worked (stepped table state roll p).answer
   unfolding stepped
   step-worked a e = by-verdict (step_verdict table state roll p) a e
 
   -- one that is refused has the refusal of its questions
-  by-refused : (v : Verdict) (r : Refusal) → (stepped_by v (decode table) state roll p).answer ≡ Refused r → v ≡ Failed r
+  by-refused : (v : Verdict) (r : Refusal) → (stepped_by v (decode table) state roll p).answer ≡ Err r → v ≡ Err r
   unfolding stepped_by
-  by-refused Accepted r e = absurd (not-refused _ (taken-worked table state roll (processes_in roll) p runs) r e)
-  by-refused (Failed s) r e = cc
+  by-refused (Ok _) r e = absurd (not-refused _ (taken-worked table state roll (processes_in roll) p runs) r e)
+  by-refused (Err s) r e = cc
 
-  step_refusal : (r : Refusal) → (stepped table state roll p).answer ≡ Refused r → step_verdict table state roll p ≡ Failed r
+  step_refusal : (r : Refusal) → (stepped table state roll p).answer ≡ Err r → step_verdict table state roll p ≡ Err r
   unfolding stepped
   step_refusal r e = by-refused (step_verdict table state roll p) r e
 
@@ -111,18 +107,18 @@ module _ (P : ℕ → ℕ → ℕ → Team → Served → List ℕ → Type 0) (
     pub none : (turns made last : ℕ) (team : Team) → some_runs team.roll last ≡ false
         → P (suc turns) made last team (stopped_at made last Accepted team) []
     pub refuses : (turns made last : ℕ) (team : Team) (r : Refusal) → some_runs team.roll last ≡ true
-        → (turn table team (next_process team.roll last)).answer ≡ Refused r
-        → P (suc turns) made last team (stopped_at made last (Failed r) team) []
+        → (turn table team (next_process team.roll last)).answer ≡ Err r
+        → P (suc turns) made last team (stopped_at made last (Err r) team) []
     pub takes : (turns made last : ℕ) (team : Team) (a : Answer) → some_runs team.roll last ≡ true
-        → (turn table team (next_process team.roll last)).answer ≡ Taken a → (end : Served) (list : List ℕ)
+        → (turn table team (next_process team.roll last)).answer ≡ Ok a → (end : Served) (list : List ℕ)
         → P turns (suc made) (next_process team.roll last) (after_turn table team (next_process team.roll last)) end list
         → P (suc turns) made last team end (next_process team.roll last ∷ list)
 
   on_answer : (Q : Served → List ℕ → Type 0) (s : Stepped) (go_on : Served) (list : List ℕ) (stop : Refusal → Served)
-      → ((a : Answer) → s ≡ Taken a → Q go_on list) → ((r : Refusal) → s ≡ Refused r → Q (stop r) [])
+      → ((a : Answer) → s ≡ Ok a → Q go_on list) → ((r : Refusal) → s ≡ Err r → Q (stop r) [])
       → Q (if_taken s go_on stop) (if_taken s list (λ r. []))
-  on_answer Q (Taken a) go_on list stop f g = f a refl
-  on_answer Q (Refused r) go_on list stop f g = g r refl
+  on_answer Q (Ok a) go_on list stop f g = f a refl
+  on_answer Q (Err r) go_on list stop f g = g r refl
 
   on_test : (Q : Served → List ℕ → Type 0) (b : Bool) (x y : Served) (xs : List ℕ)
       → (b ≡ true → Q x xs) → (b ≡ false → Q y []) → Q (cond b x y) (cond b xs [])
@@ -161,7 +157,7 @@ module _ (table : List ℕ) where
       record { made = omega arith; within = omega arith; last-is = refl; state-is = refl; roll-is = refl; worked = tt }
 
   as_taken : (turns before last : ℕ) (team : Team) (a : Answer) → some_runs team.roll last ≡ true
-      → (turn table team (next_process team.roll last)).answer ≡ Taken a → (end : Served) (list : List ℕ)
+      → (turn table team (next_process team.roll last)).answer ≡ Ok a → (end : Served) (list : List ℕ)
       → AsTurns table turns (suc before) (next_process team.roll last)
       (after_turn table team (next_process team.roll last)) end list
       → AsTurns table (suc turns) before last team end (next_process team.roll last ∷ list)
@@ -186,7 +182,7 @@ module _ (table : List ℕ) where
       (record {
         used = λ made last team. as_stopped 0 made last Accepted team;
         none = λ turns made last team e. as_stopped (suc turns) made last Accepted team;
-        refuses = λ turns made last team r some e. as_stopped (suc turns) made last (Failed r) team;
+        refuses = λ turns made last team r some e. as_stopped (suc turns) made last (Err r) team;
         takes = as_taken;
       })
 
@@ -205,8 +201,8 @@ module _ (table : List ℕ) where
   as_called : (v : Verdict) (team : Team) (last turns : ℕ)
       → AsSingleTurns table team last turns (chosen_by v table team last turns) (served_by v table team last turns)
   unfolding chosen_by served_by
-  as_called Accepted team last turns = as_single turns last team _ _ (as_turns turns 0 last team)
-  as_called (Failed r) team last turns = as_single turns last team _ _ (as_stopped turns 0 last (Failed r) team)
+  as_called (Ok _) team last turns = as_single turns last team _ _ (as_turns turns 0 last team)
+  as_called (Err r) team last turns = as_single turns last team _ _ (as_stopped turns 0 last (Err r) team)
 
 pub served_as_single_turns : ServedAsSingleTurns
 unfolding served chosen_in

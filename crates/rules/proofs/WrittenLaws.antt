@@ -8,7 +8,7 @@ use native.Mathlib.Omega.{arith}
 use lib.Dec.{leb, eqb}
 use lib.ListN.{length}
 use borrow.Author.Tests.{lt-ltb, le-leb, eq-eqb}
-use Rattle.rules.specs.declared.Verdict.TheVariants.{Accepted}
+use Rattle.rules.specs.Answers.{Accepted}
 use Rattle.rules.specs.Encoding.{header_word, flag_bits, body_word, word_of, encode, Encodable, Bounded, WellWritten}
 use Rattle.rules.specs.Evaluation.{bit}
 use Rattle.rules.specs.Table.{Program, decode, word_at, edition, procedure_word}

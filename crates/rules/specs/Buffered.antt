@@ -1,10 +1,9 @@
 -- "Exchange without the temporary": an exchange with one, a buffer that takes the values of all processes before any slot
 -- is written, and the step that uses it. `SameAsBuffered` says that this step is `stepped`; nothing else cites this file.
-use Rattle.std.specs.Prelude.{cond, List, ◌≡◌, ℕ, ◌+◌, eqb}
+use Rattle.std.specs.Prelude.{cond, List, ◌≡◌, ℕ, ◌+◌, eqb, Ok, Err}
 use Rattle.std.proofs.lemmas.List.Edits.{sets}
 use Rattle.rules.specs.declared.Event.TheVariants.{Arrived, Completed}
-use Rattle.rules.specs.declared.Verdict.{Verdict}
-use Rattle.rules.specs.declared.Verdict.TheVariants.{Accepted, Refused as Failed}
+use Rattle.rules.specs.Answers.{Verdict}
 use Rattle.rules.specs.Arrivals.{running, status_at, arrival_value, with_arrival, team_status, all_at_one_node}
 use Rattle.rules.specs.Below.{below}
 use Rattle.rules.specs.Collective.{arrival_of, completed_state, released_roll}
@@ -49,10 +48,10 @@ buffered_running program state roll count p =
 
 -- as `stepped_by`, which has the refusals; an idle step is that of `step_taken`
 unfoldable pub buffered_by : Verdict → Program → List ℕ → List ℕ → ℕ → Outcome
-buffered_by Accepted program state roll p =
+buffered_by (Ok _) program state roll p =
     cond (eqb (status_at roll p) running) (buffered_running program state roll (processes_in roll) p)
     (step_taken program state roll (processes_in roll) p)
-buffered_by (Failed r) program state roll p = stepped_by (Failed r) program state roll p
+buffered_by (Err r) program state roll p = stepped_by (Err r) program state roll p
 
 unfoldable pub buffered_step : List ℕ → List ℕ → List ℕ → ℕ → Outcome
 buffered_step table state roll p = buffered_by (step_verdict table state roll p) (decode table) state roll p

@@ -1,17 +1,13 @@
 -- The cases that the paper marks to be proved of the rules, and one or two of each request, one table of theorems, each by
 -- computation from the words of a table. The crate cases has more.
-use Rattle.std.specs.Prelude.{List, [], ◌∷◌, ◌++◌, ◌≡◌, refl, ℕ, ◌+◌, ◌-◌, ◌*◌, ◌/◌, ◌%◌, ◌^◌, get_or, replicate, set, take}
+use Rattle.std.specs.Prelude.{List, [], ◌∷◌, ◌++◌, ◌≡◌, refl, ℕ, ◌+◌, ◌-◌, ◌*◌, ◌/◌, ◌%◌, ◌^◌, get_or, replicate, set, take, Ok}
 use Rattle.rules.specs.declared.Event.{Event}
 use Rattle.rules.specs.declared.Event.TheVariants.{Moved, Finished, Arrived, Completed}
-use Rattle.rules.specs.declared.Stepped.{Stepped}
-use Rattle.rules.specs.declared.Stepped.TheVariants.{Taken}
+use Rattle.rules.specs.Answers.{Verdict, Stepped, Accepted, refused}
 use Rattle.rules.specs.declared.TeamStatus.{TeamStatus}
 use Rattle.rules.specs.declared.TeamStatus.TheVariants.{Going, Done, Deadlocked}
-use Rattle.rules.specs.declared.Verdict.{Verdict}
-use Rattle.rules.specs.declared.Verdict.TheVariants.{Accepted}
 use Rattle.rules.specs.Acceptance
 use Rattle.rules.specs.Acceptance.{scratch_words, checked}
-use Rattle.rules.specs.Answers.{refused}
 use Rattle.rules.specs.Arrivals
 use Rattle.rules.specs.Arrivals.{arrival_size}
 use Rattle.rules.specs.Below
@@ -51,7 +47,7 @@ unfoldable pub run : List ℕ → ℕ → List ℕ → List ℕ → List Stepped
 run words count start turns = answers (bytes words) (start_on words count start) turns
 
 unfoldable pub answer : Event → TeamStatus → Stepped
-answer event team = Taken (record { event = event; team = team })
+answer event team = Ok (record { event = event; team = team })
 
 -- "Words of a table", and the questions whether it is well formed
 unfoldable pub table-opened : ℕ

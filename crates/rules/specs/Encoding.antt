@@ -1,7 +1,7 @@
 -- A program written out as a table of edition 1, for the tools whose answer is a table: the other way round from `decode`.
 use Rattle.std.specs.Prelude.{Bool, false, cond, List, [], ◌∷◌, ◌≡◌, ℕ, zero, suc, ◌+◌, ◌-◌, ◌*◌, ◌/◌, ◌%◌, ◌^◌, ◌≤◌, ◌<◌, ltb, get_or}
 use Rattle.rules.specs.declared.Node.{Node}
-use Rattle.rules.specs.declared.Verdict.TheVariants.{Accepted}
+use Rattle.rules.specs.Answers.{Accepted}
 use Rattle.rules.specs.Evaluation.{bit}
 use Rattle.rules.specs.Table.{Program, decode, variables, procedures, nodes, flagged, body, effect_flag, node_at, unpacked}
 use Rattle.rules.specs.WellFormed.{joined, formed_by, well_formed}

@@ -1,9 +1,7 @@
 -- "Two programs", the run program and the one that serves: what of its input is what, and what each asks before the first turn,
 -- question 25 and then those of a start up to 19.
 use Rattle.std.specs.Prelude.{cond, ◌&&◌, List, [], ◌∷◌, ◌≡◌, ℕ, ◌+◌, ◌*◌, ◌/◌, ◌%◌, min, leb, eqb, length, take, drop}
-use Rattle.rules.specs.declared.Verdict.{Verdict}
-use Rattle.rules.specs.declared.Verdict.TheVariants.{Accepted}
-use Rattle.rules.specs.Answers.{◌then◌, ask}
+use Rattle.rules.specs.Answers.{Verdict, Accepted, ◌then◌, ask}
 use Rattle.rules.specs.Arrivals.{arrival_size}
 use Rattle.rules.specs.Process.{process_words, most_processes}
 use Rattle.rules.specs.Start.{question18, question19, start_size, started}

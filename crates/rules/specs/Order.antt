@@ -1,10 +1,8 @@
 -- "The order of turns makes no difference": request U9, over the runs of Run.antt and the calls of Scheduling.antt.
-use Rattle.std.specs.Prelude.{cond, List, [], ◌∷◌, ◌⊎◌, ◌≡◌, ℕ, ◌+◌, ◌≤◌, ◌<◌, eqb}
-use Rattle.rules.specs.declared.Stepped.{Stepped}
-use Rattle.rules.specs.declared.Stepped.TheVariants.{Taken, Refused}
+use Rattle.std.specs.Prelude.{cond, List, [], ◌∷◌, ◌⊎◌, ◌≡◌, ℕ, ◌+◌, ◌≤◌, ◌<◌, eqb, Ok, Err}
+use Rattle.rules.specs.Answers.{Stepped, Accepted}
 use Rattle.rules.specs.declared.TeamStatus.{TeamStatus}
 use Rattle.rules.specs.declared.TeamStatus.TheVariants.{Done, Deadlocked}
-use Rattle.rules.specs.declared.Verdict.TheVariants.{Accepted}
 use Rattle.rules.specs.Arrivals.{team_status}
 use Rattle.rules.specs.Process.{process_at}
 use Rattle.rules.specs.Run.{Team, turn, after_turn, after_turns, answers, collectives, start_team}
@@ -63,8 +61,8 @@ SameStart =
 
 -- the status that a turn's answer says; a refused turn says none
 abbrev pub Says : Stepped → TeamStatus → Type 0
-Says (Taken answer) status = answer.team ≡ status
-Says (Refused r) status = Unit {0}
+Says (Ok answer) status = answer.team ≡ status
+Says (Err r) status = Unit {0}
 
 -- From a start, every turn's answer says what the roll then says. So the ending is also what the last answer of either list
 -- says, refused turns left out.

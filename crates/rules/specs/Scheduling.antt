@@ -3,10 +3,8 @@ use Rattle.std.specs.Prelude.{Bool, true, false, cond, not, List, [], ◌∷◌,
 use Rattle.rules.specs.declared.Event.{Event}
 use Rattle.rules.specs.declared.Event.TheVariants.{Moved, Finished, Arrived, Completed, Waiting, Ended}
 use Rattle.rules.specs.declared.Refusal.{Refusal}
-use Rattle.rules.specs.declared.Stepped.{Stepped}
-use Rattle.rules.specs.declared.Stepped.TheVariants.{Taken, Refused}
-use Rattle.rules.specs.declared.Verdict.{Verdict}
-use Rattle.rules.specs.declared.Verdict.TheVariants.{Accepted, Refused as Failed}
+use Rattle.std.specs.Prelude.{Ok, Err}
+use Rattle.rules.specs.Answers.{Verdict, Stepped, Accepted}
 use Rattle.rules.specs.Arrivals.{running, status_at}
 use Rattle.rules.specs.Choice.{first_failing}
 use Rattle.rules.specs.Run.{Team, turn, after_turn, after_turns, answers, start_team, EqualStart, Agreement}
@@ -42,8 +40,8 @@ stopped_at made last answer team =
 
 -- what follows a turn that is taken, or one that would be refused
 abbrev pub if_taken : {A : Type 0} → Stepped → A → (Refusal → A) → A
-if_taken (Taken answer) go_on stop = go_on
-if_taken (Refused r) go_on stop = stop r
+if_taken (Ok answer) go_on stop = go_on
+if_taken (Err r) go_on stop = stop r
 
 -- "it serves the first running bank after that one, cyclically, until the turns are used or no bank runs"; "If a turn, the
 -- first included, would then be refused, serving stops before it, the turns made stand, and the answer adds that refusal."
@@ -53,13 +51,13 @@ serving table (suc turns) made last team =
     let next = next_process team.roll last in
     cond (some_runs team.roll last)
     (if_taken (turn table team next).answer (serving table turns (suc made) next (after_turn table team next))
-    (λ r. stopped_at made last (Failed r) team))
+    (λ r. stopped_at made last (Err r) team))
     (stopped_at made last Accepted team)
 
 -- "No turns made: the last bank is the one given."
 unfoldable pub served_by : Verdict → List ℕ → Team → ℕ → ℕ → Served
-served_by Accepted table team last turns = serving table turns 0 last team
-served_by (Failed r) table team last turns = stopped_at 0 last (Failed r) team
+served_by (Ok _) table team last turns = serving table turns 0 last team
+served_by (Err r) table team last turns = stopped_at 0 last (Err r) team
 
 -- "A turn's questions up to 23 are asked first, also when no turn is made"; "A last bank that the roll lacks gets number 22,
 -- in its usual place."
@@ -77,8 +75,8 @@ chosen table (suc turns) last team =
     []
 
 unfoldable pub chosen_by : Verdict → List ℕ → Team → ℕ → ℕ → List ℕ
-chosen_by Accepted table team last turns = chosen table turns last team
-chosen_by (Failed r) table team last turns = []
+chosen_by (Ok _) table team last turns = chosen table turns last team
+chosen_by (Err r) table team last turns = []
 
 -- those of a call
 unfoldable pub chosen_in : List ℕ → Team → ℕ → ℕ → List ℕ
@@ -102,13 +100,13 @@ event_turns Waiting = 0
 event_turns Ended = 0
 
 abbrev pub answer_turns : Stepped → ℕ
-answer_turns (Taken answer) = event_turns answer.event
-answer_turns (Refused r) = 0
+answer_turns (Ok answer) = event_turns answer.event
+answer_turns (Err r) = 0
 
 -- an answer to a turn that was taken and was not idle
 abbrev pub Worked : Stepped → Type 0
-Worked (Taken answer) = (answer.event ≡ Waiting → ⊥) × (answer.event ≡ Ended → ⊥)
-Worked (Refused r) = ⊥
+Worked (Ok answer) = (answer.event ≡ Waiting → ⊥) × (answer.event ≡ Ended → ⊥)
+Worked (Err r) = ⊥
 
 abbrev pub AllWorked : List Stepped → Type 0
 AllWorked [] = Unit {0}
@@ -119,8 +117,8 @@ abbrev pub Stopped : List ℕ → ℕ → Served → Type 0
 Stopped table turns end =
     ((end.answer ≡ Accepted) × (end.made ≡ turns))
     ⊎ (((end.answer ≡ Accepted) × (some_runs end.roll end.last ≡ false))
-    ⊎ ((r : Refusal) × (some_runs end.roll end.last ≡ true) × (end.answer ≡ Failed r)
-    × (step_verdict table end.state end.roll (next_process end.roll end.last) ≡ Failed r)))
+    ⊎ ((r : Refusal) × (some_runs end.roll end.last ≡ true) × (end.answer ≡ Err r)
+    × (step_verdict table end.state end.roll (next_process end.roll end.last) ≡ Err r)))
 
 -- 1: "state and roll are as single turns in that order leave them"
 pub record AsSingleTurns (table : List ℕ) (team : Team) (last turns : ℕ) (list : List ℕ) (end : Served) : Type 0 where

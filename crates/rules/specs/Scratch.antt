@@ -1,9 +1,8 @@
 -- "Less scratch for the checker": the answer as it was with 256 words, kept for `SameAsWith256` only, and what is claimed of any
 -- scratch. Nothing else cites this file.
 use Rattle.std.specs.Prelude.{List, ◌≡◌, ℕ, ◌<◌, ◌≤◌, leb, length, get_or}
-use Rattle.rules.specs.declared.Verdict.{Verdict}
+use Rattle.rules.specs.Answers.{Verdict, ◌then◌, ask}
 use Rattle.rules.specs.Acceptance.{scratch_words, judged, checked, checked_scratch}
-use Rattle.rules.specs.Answers.{◌then◌, ask}
 use Rattle.rules.specs.WellFormed.{well_formed}
 use Rattle.rules.specs.Table.{decode}
 

@@ -1,8 +1,7 @@
 -- A start: questions 2 to 12, 26 and 18 to 21, the words that it lays out, and the view of a process's latches.
 use Rattle.std.specs.Prelude.{cond, ◌&&◌, List, [], ◌∷◌, ◌++◌, ℕ, ◌+◌, ◌-◌, ◌*◌, ◌/◌, ◌%◌, leb, ltb, eqb, length, take, drop, replicate}
-use Rattle.rules.specs.declared.Verdict.{Verdict}
-use Rattle.rules.specs.declared.Verdict.TheVariants.{Accepted, Refused}
-use Rattle.rules.specs.Answers.{◌then◌, ask}
+use Rattle.std.specs.Prelude.{Ok, Err}
+use Rattle.rules.specs.Answers.{Verdict, Accepted, ◌then◌, ask}
 use Rattle.rules.specs.Arrivals.{arrival_size, running_record, each_arrival}
 use Rattle.rules.specs.Evaluation.{doors}
 use Rattle.rules.specs.Process.{variable_places, gathered_places, latch_places, stack_places, latches_at, process_words, most_processes, each_process}
@@ -66,9 +65,9 @@ pub record Started : Type 0 where
   pub roll : List ℕ
 
 unfoldable pub started_by : Verdict → Program → ℕ → List ℕ → List ℕ → List ℕ → Started
-started_by Accepted program count words state roll =
+started_by (Ok _) program count words state roll =
     record { answer = Accepted; state = start_state program count words state; roll = start_roll count roll }
-started_by (Refused r) program count words state roll = record { answer = Refused r; state = state; roll = roll }
+started_by (Err r) program count words state roll = record { answer = Err r; state = state; roll = roll }
 
 unfoldable pub started : List ℕ → ℕ → List ℕ → List ℕ → List ℕ → Started
 started table count words state roll =

@@ -1,10 +1,7 @@
 -- "Switches fixed when the table is written": what is claimed of them. Nothing else cites this file.
 use Rattle.std.specs.Prelude.{true, List, [], ◌∷◌, ◌≡◌, ℕ, ◌+◌, ◌<◌, get_or}
-use Rattle.rules.specs.declared.Stepped.{Stepped}
-use Rattle.rules.specs.declared.Verdict.{Verdict}
-use Rattle.rules.specs.declared.Verdict.TheVariants.{Accepted}
+use Rattle.rules.specs.Answers.{Verdict, Stepped, Accepted, ◌then◌}
 use Rattle.rules.specs.Acceptance.{question1, judged_by, judged, checked}
-use Rattle.rules.specs.Answers.{◌then◌}
 use Rattle.rules.specs.Evaluation.{Environment, value}
 use Rattle.rules.specs.Judgement.{single, fixed, unfixed, fixing, live}
 use Rattle.rules.specs.Process.{stack_at, process_at, depth}

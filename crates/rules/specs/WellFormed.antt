@@ -1,8 +1,7 @@
 -- Questions 2 to 12 and 26: is the table well formed? They are asked by the checker, a start and a step alike.
 use Rattle.std.specs.Prelude.{Bool, true, false, cond, not, ◌&&◌, ◌||◌, List, [], ◌∷◌, ◌++◌, ◌⊎◌, ◌≡◌, ℕ, zero, suc, ◌+◌, ◌-◌, ◌*◌, ◌%◌, ◌^◌, leb, ltb, eqb, length, get_or}
 use Rattle.rules.specs.declared.Node.{Node}
-use Rattle.rules.specs.declared.Verdict.{Verdict}
-use Rattle.rules.specs.Answers.{◌then◌, ask, ask_each}
+use Rattle.rules.specs.Answers.{Verdict, ◌then◌, ask, ask_each}
 use Rattle.rules.specs.Below.{at_node}
 use Rattle.rules.specs.Choice.{all_below, first_failing}
 use Rattle.rules.specs.Table.{Program, decode, word_at, edition, variables, procedures, nodes, procedure_word, body, node_at}

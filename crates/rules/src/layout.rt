@@ -1,7 +1,7 @@
 // The numbers of the layout, each once in the code and once in the definitions: specs/Process.antt (places and offsets),
 // Evaluation.antt (doors, slots), Table.antt (gathered areas), WellFormed.antt, Arrivals.antt and Acceptance.antt (the other sizes).
 // The functions below hold the two to each other.
-ghost use Rattle.std.specs.Prelude.{◌∷◌, [], ◌≡◌, ◌+◌, ◌<◌, min};
+ghost use Rattle.std.specs.Prelude.{◌∷◌, [], ◌≡◌, ◌+◌, ◌<◌};
 ghost use Rattle.rules.specs.Acceptance.{scratch_words};
 ghost use Rattle.rules.specs.Arrivals.{arrival_size};
 ghost use Rattle.rules.specs.Evaluation.{doors, area_slots, gathered_slot};
@@ -56,13 +56,6 @@ pub fn slot_at(area: usize, i: usize) -> usize
     ensures { result ≡ gathered_at + gathered_slot area i }
 {
     GATHERED_AT + AREA_SLOTS * area + i
-}
-
-// The lesser of two sizes: so much of one as the other has room for.
-pub fn lesser(a: usize, b: usize) -> usize
-    ensures { result ≡ min a b }
-{
-    if a < b { a } else { b }
 }
 
 fn sizes() -> [usize; 11]

@@ -3,7 +3,7 @@
 #![tactic(auto)]
 
 ghost use Rattle.std.specs.Prelude.{◌≡◌, ◌*◌, ◌/◌, length};
-ghost use Rattle.rules.specs.declared.Verdict.TheVariants.{Accepted};
+ghost use Rattle.rules.specs.Answers.{Accepted};
 ghost use Rattle.rules.specs.Input.{most_input_bytes, question25, run_behind};
 ghost use Rattle.rules.specs.Process.{process_words, most_processes};
 
@@ -11,26 +11,22 @@ use input::{
     INPUT_BYTES, INPUT_WORDS, RUN_BEHIND, asked, read_full, run_words, table_bytes, turns,
     word_behind,
 };
-use rules::layout::{MOST_PROCESSES, PROCESS_WORDS, STATE_WORDS, lesser};
-use rules::{Arrival, Status, Stepped, Verdict};
+use rules::layout::{MOST_PROCESSES, PROCESS_WORDS, STATE_WORDS};
+use rules::{Arrival, Status, Stepped};
 use std::io;
 
 // Answers whether the run goes on.
 fn report_step(rt: &impl Print, bank: u32, stepped: Stepped) -> io::Result<bool> {
     match stepped {
-        Stepped::Taken(answer) => {
+        Ok(answer) => {
             report::turn(rt, bank, answer)?;
             Ok(true)
         }
-        Stepped::Refused(refusal) => {
+        Err(refusal) => {
             report::refusal(rt, refusal)?;
             Ok(false)
         }
     }
-}
-
-fn bank_of(turn: u8) -> u32 {
-    turn as u32
 }
 
 fn take_turns(
@@ -43,9 +39,8 @@ fn take_turns(
 ) -> io::Result<()> {
     report::header(rt)?;
     let mut records = roll;
-    let count = turns.len();
-    for i in 0..count {
-        let bank = bank_of(turns[i]);
+    for &turn in turns {
+        let bank = u32::from(turn);
         let after = records::step_on(table, state, records, processes, bank);
         records = after.roll;
         let stepped = after.answer;
@@ -64,7 +59,7 @@ fn run_lent(rt: &impl Print, input: &[u8], words: &mut [u32], state: &mut [u32])
     let table = table_bytes(input);
     let processes = word_behind(input, 0);
     let taken = run_words(input, words);
-    let count = lesser(processes as usize, MOST_PROCESSES);
+    let count = (processes as usize).min(MOST_PROCESSES);
     let state_end = PROCESS_WORDS * count;
     let running = Arrival {
         status: Status::Running,
@@ -84,8 +79,8 @@ fn run_lent(rt: &impl Print, input: &[u8], words: &mut [u32], state: &mut [u32])
     let roll = after.roll;
     let banks = turns(input);
     match answer {
-        Verdict::Accepted => take_turns(rt, table, &mut state[..state_end], roll, count, banks),
-        Verdict::Refused(refusal) => report::refusal(rt, refusal),
+        Ok(()) => take_turns(rt, table, &mut state[..state_end], roll, count, banks),
+        Err(refusal) => report::refusal(rt, refusal),
     }
 }
 
@@ -98,10 +93,9 @@ fn run_input(rt: &impl Print, input: &[u8]) -> io::Result<()>
 }
 
 fn run(rt: &impl Print, input: &[u8]) -> io::Result<()> {
-    let verdict = asked(input, RUN_BEHIND);
-    match verdict {
-        Verdict::Accepted => run_input(rt, input),
-        Verdict::Refused(refusal) => report::refusal(rt, refusal),
+    match asked(input, RUN_BEHIND) {
+        Ok(()) => run_input(rt, input),
+        Err(refusal) => report::refusal(rt, refusal),
     }
 }
 

@@ -3,7 +3,7 @@
 #![tactic(auto)]
 
 ghost use Rattle.std.specs.Prelude.{◌≡◌, ◌*◌, ◌/◌, length};
-ghost use Rattle.rules.specs.declared.Verdict.TheVariants.{Accepted};
+ghost use Rattle.rules.specs.Answers.{Accepted};
 ghost use Rattle.rules.specs.Arrivals.{arrival_size};
 ghost use Rattle.rules.specs.Input.{most_input_bytes, question25, serve_behind};
 ghost use Rattle.rules.specs.Process.{process_words, most_processes};
@@ -12,8 +12,7 @@ use collectives::arrivals::team_status;
 use input::{
     INPUT_BYTES, INPUT_WORDS, SERVE_BEHIND, asked, read_full, serve_words, table_bytes, word_behind,
 };
-use rules::Verdict;
-use rules::layout::{ARRIVAL_WORDS, MOST_PROCESSES, PROCESS_WORDS, STATE_WORDS, lesser};
+use rules::layout::{ARRIVAL_WORDS, MOST_PROCESSES, PROCESS_WORDS, STATE_WORDS};
 use std::io;
 
 // The roll of the largest team.
@@ -34,12 +33,9 @@ fn serve_started(
     let last = word_behind(input, 1);
     let turns = word_behind(input, 2);
     let service = scheduler::serve(table, state, roll, last, turns);
-    let answer = service.answer;
-    match answer {
-        Verdict::Accepted => {
-            report::served(rt, service.made, service.last, team_status(roll, count))
-        }
-        Verdict::Refused(refusal) => report::refusal(rt, refusal),
+    match service.answer {
+        Ok(()) => { report::served(rt, service.made, service.last, team_status(roll, count)) }
+        Err(refusal) => report::refusal(rt, refusal),
     }
 }
 
@@ -57,7 +53,7 @@ fn serve_lent(
     let table = table_bytes(input);
     let processes = word_behind(input, 0);
     let taken = serve_words(input, words);
-    let count = lesser(processes as usize, MOST_PROCESSES);
+    let count = (processes as usize).min(MOST_PROCESSES);
     let state_end = PROCESS_WORDS * count;
     let roll_end = ARRIVAL_WORDS * count;
     let answer = machine::team::start(
@@ -68,7 +64,7 @@ fn serve_lent(
         &mut roll[..roll_end],
     );
     match answer {
-        Verdict::Accepted => serve_started(
+        Ok(()) => serve_started(
             rt,
             input,
             table,
@@ -76,7 +72,7 @@ fn serve_lent(
             &mut roll[..roll_end],
             count,
         ),
-        Verdict::Refused(refusal) => report::refusal(rt, refusal),
+        Err(refusal) => report::refusal(rt, refusal),
     }
 }
 
@@ -90,10 +86,9 @@ fn serve_input(rt: &impl Print, input: &[u8]) -> io::Result<()>
 }
 
 fn serve(rt: &impl Print, input: &[u8]) -> io::Result<()> {
-    let verdict = asked(input, SERVE_BEHIND);
-    match verdict {
-        Verdict::Accepted => serve_input(rt, input),
-        Verdict::Refused(refusal) => report::refusal(rt, refusal),
+    match asked(input, SERVE_BEHIND) {
+        Ok(()) => serve_input(rt, input),
+        Err(refusal) => report::refusal(rt, refusal),
     }
 }
 

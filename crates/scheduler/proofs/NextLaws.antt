@@ -1,7 +1,7 @@
 -- The next process: what a round that has passed some over knows, and what it finds.
 use mathlib.Core.Bool.{Bool, true, false, not}
 use mathlib.Core.List.{List}
-use mathlib.Core.Logic.{◌≢◌, ⊎_elim}
+use mathlib.Core.Logic.{⊎_elim}
 use mathlib.Core.Path.{◌≡◌, ◌∙◌, ap}
 use Prim.Native.Nat.{ℕ, ◌+◌, ◌*◌, ◌%◌, ◌<◌}
 use native.Mathlib.Nat.{mod-add-mod}
@@ -9,6 +9,7 @@ use native.Mathlib.Omega.{arith}
 use lib.Dec.{eqb}
 use lib.ListN.{length}
 use borrow.Author.Tests.{lt-ltb, le-ltb}
+use Rattle.std.proofs.Common.{Some, None}
 use Rattle.rules.specs.Arrivals.{arrival_size, running, status_at}
 use Rattle.rules.specs.Scheduling.{place_after, passed_over, some_runs, next_process}
 use Rattle.rules.proofs.ChoiceLaws.{Passed, bool_cases, first-at, first-none}
@@ -25,34 +26,37 @@ one_on count last p i e = rw e (mod-add-mod (last + i) count 1 ∙ ap (λ n. n %
 
 module _ (roll : List ℕ) (count last : ℕ) (sized : length roll ≡ arrival_size * count) where
   pub found-next : (i : ℕ) → i < count → Passed (passes roll count last) i → passes roll count last i ≡ false
-      → place_after count last i ≡ next_of roll count last
+      → Some (place_after count last i) ≡ next_of roll last
   unfolding next_process passed_over
   found-next i l h f = rw (processes_in_lem roll count sized, first-at (passes roll count last) count i l h f, lt-ltb i count l)
 
-  pub found_none : Passed (passes roll count last) count → count ≡ next_of roll count last
+  pub found_none : Passed (passes roll count last) count → None ≡ next_of roll last
   unfolding next_process passed_over
   found_none h = rw (processes_in_lem roll count sized, first-none (passes roll count last) count h, le-ltb count count (omega arith))
 
-  -- what the answer tells
-  pub none_runs : next_of roll count last ≡ count → some_runs roll last ≡ false
-  none_runs e =
-      ⊎_elim
-      (λ (some : some_runs roll last ≡ true).
-      let low = next-below roll last some in
-      let same : next_process roll last ≡ count = rw some at e in
-      absurd (omega (arith, processes_in_lem roll count sized)))
-      (λ (none : some_runs roll last ≡ false). none)
-      (bool_cases (some_runs roll last))
-
-  pub some_runs_lem : next_of roll count last ≢ count → some_runs roll last ≡ true
-  some_runs_lem n =
-      ⊎_elim
-      (λ (some : some_runs roll last ≡ true). some)
-      (λ (none : some_runs roll last ≡ false). absurd (n (rw none)))
-      (bool_cases (some_runs roll last))
-
-  pub next-is : some_runs roll last ≡ true → next_of roll count last ≡ next_process roll last
-  next-is some = rw some
-
   pub next-within : some_runs roll last ≡ true → next_process roll last < count
   next-within some = rw (processes_in_lem roll count sized) at (next-below roll last some)
+
+-- what the answer tells
+pub none_runs : (roll : List ℕ) (last : ℕ) → next_of roll last ≡ None → some_runs roll last ≡ false
+none_runs roll last e =
+    ⊎_elim
+    (λ (some : some_runs roll last ≡ true).
+    let found : Some (next_process roll last) ≡ None = rw some at e in
+    let z : ◌≡◌ {A = ℕ} 0 1 = cc in
+    absurd (omega arith))
+    (λ (none : some_runs roll last ≡ false). none)
+    (bool_cases (some_runs roll last))
+
+pub next-is : (roll : List ℕ) (last p : ℕ) → next_of roll last ≡ Some p → (some_runs roll last ≡ true) × (p ≡ next_process roll last)
+next-is roll last p e =
+    ⊎_elim
+    (λ (some : some_runs roll last ≡ true).
+    let found : Some (next_process roll last) ≡ Some p = rw some at e in
+    let same : p ≡ next_process roll last = cc in
+    (some, same))
+    (λ (none : some_runs roll last ≡ false).
+    let found : None ≡ Some p = rw none at e in
+    let z : ◌≡◌ {A = ℕ} 0 1 = cc in
+    absurd (omega arith))
+    (bool_cases (some_runs roll last))

@@ -7,11 +7,8 @@ use native.Mathlib.Numerals.{add-one}
 use native.Mathlib.Omega.{arith}
 use borrow.Author.Tests.{lt-ltb}
 use Rattle.rules.specs.declared.Refusal.{Refusal}
-use Rattle.rules.specs.declared.Stepped.{Stepped}
-use Rattle.rules.specs.declared.Stepped.TheVariants.{Taken, Refused}
-use Rattle.rules.specs.declared.Verdict.{Verdict}
-use Rattle.rules.specs.declared.Verdict.TheVariants.{Accepted, Refused as Failed}
-use Rattle.rules.specs.Answers.{refused}
+use Rattle.std.specs.Prelude.{Ok, Err}
+use Rattle.rules.specs.Answers.{Verdict, Stepped, Accepted, refused}
 use Rattle.rules.specs.Arrivals.{running, status_at, all_at_one_node}
 use Rattle.rules.specs.Run.{after_turn}
 use Rattle.rules.specs.Scheduling.{some_runs, next_process, Served, stopped_at, serving, served_by, served, Worked}
@@ -31,7 +28,6 @@ use Rattle.rules.specs.Table.{decode}
 -- `end` is what the whole call comes to
 pub record Between (table : List ℕ) (header : Header) (count turns : ℕ) (end : Served) (state roll : List ℕ) (made last unfit : ℕ)
     : Type 0 where
-  pub within : made ≤ turns
   pub team : GivenTeam table header state roll count
   pub listed : last < count
   pub apart : all_at_one_node roll count ≡ false
@@ -45,7 +41,6 @@ pub begun : {table : List ℕ} {header : Header} {state roll : List ℕ} {count 
 begun {table} {header} {state} {roll} {count} turns asked =
     let e : turns - 0 ≡ turns = omega arith in
     record {
-      within = omega arith;
       team = asked.team;
       listed = asked.within;
       apart = asked.apart;
@@ -59,11 +54,11 @@ stopped e = rw e (record { made = refl; last = refl; answered = refl; left = ref
 
 module _ {table : List ℕ} {header : Header} {count turns : ℕ} {end : Served} {state roll : List ℕ} {made last unfit : ℕ}
     (b : Between table header count turns end state roll made last unfit) where
-  pub stops-used : turns ≤ made → Serves end (service made last Accepted) state roll
+  pub stops-used : made ≡ turns → Serves end (service turns last Accepted) state roll
   unfolding serving
-  stops-used l =
+  stops-used e =
       let none : turns - made ≡ 0 = omega arith in
-      stopped (rw none at b.going)
+      rw (← e) (stopped (rw none at b.going))
 
   module _ (more : made < turns) where
     one_more : end ≡ serving table (suc (turns - suc made)) made last (team_of state roll)
@@ -92,8 +87,8 @@ module _ {table : List ℕ} {header : Header} {count turns : ℕ} {end : Served}
             roll-sized = b.team.rolled;
           }
 
-      stops : {r : Refusal} → Gives (stepped table state roll next) (Refused r) state roll
-          → Serves end (service made last (Failed r)) state roll
+      stops : {r : Refusal} → Gives (stepped table state roll next) (Err r) state roll
+          → Serves end (service made last (Err r)) state roll
       unfolding serving
       stops g = stopped (rw (some, sym g.answered) at one_more)
 
@@ -135,8 +130,8 @@ module _ {table : List ℕ} {header : Header} {count turns : ℕ} {end : Served}
           served_on : (s : Stepped) → Worked s → (step_taken (decode table) state roll count next).answer ≡ s
               → end ≡ serving table (turns - suc made) (suc made) next (after_turn table (team_of state roll) next)
           unfolding serving
-          served_on (Taken a) worked e = one_more ∙ rw (some, same, e)
-          served_on (Refused r) worked e = absurd (not-refused (Refused r) worked r refl)
+          served_on (Ok a) worked e = one_more ∙ rw (some, same, e)
+          served_on (Err r) worked e = absurd (not-refused (Err r) worked r refl)
 
           -- a turn is made
           pub goes_on : {after rolled : List ℕ} {left : ℕ} → Makes (decode table) (step_taken (decode table) state roll count next) count left after rolled
@@ -146,7 +141,6 @@ module _ {table : List ℕ} {header : Header} {count turns : ℕ} {end : Served}
               let team = b.team in
               let one : made + 1 ≡ suc made = add-one made in
               record {
-                within = omega arith;
                 team = record {
                   read = team.read;
                   some = team.some;
@@ -168,7 +162,7 @@ module _ (table state roll : List ℕ) (last turns : ℕ) where
   unfolding served served_by
   served-asked e = rw e
 
-  pub served-refused : {r : Refusal} → team_verdict table state roll last ≡ Failed r
-      → Serves (served table state roll last turns) (service 0 last (Failed r)) state roll
+  pub served-refused : {r : Refusal} → team_verdict table state roll last ≡ Err r
+      → Serves (served table state roll last turns) (service 0 last (Err r)) state roll
   unfolding served served_by
   served-refused e = stopped (rw e)

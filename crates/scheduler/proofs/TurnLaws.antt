@@ -12,18 +12,16 @@ use lib.ListN.{length}
 use borrow.Author.Tests.{eqb-true, eqb-false, ne_eqb, le-leb}
 use Rattle.rules.specs.declared.Answer.{Answer}
 use Rattle.rules.specs.declared.Refusal.{Refusal}
-use Rattle.rules.specs.declared.Stepped.{Stepped}
-use Rattle.rules.specs.declared.Stepped.TheVariants.{Taken, Refused}
-use Rattle.rules.specs.Arrivals.{running, arrival_size, running_record, ended_record}
-use Rattle.rules.specs.Arrivals.{status_at, SameRecord, all_at_one_node}
+use Rattle.std.specs.Prelude.{Ok, Err}
+use Rattle.rules.specs.Answers.{Stepped}
+use Rattle.rules.specs.Arrivals.{running, arrival_size, running_record, ended_record, status_at, SameRecord, all_at_one_node}
 use Rattle.rules.specs.Collective.{arrival_of, received, completed_state, released_roll}
 use Rattle.rules.specs.Process.{stack_places, process_words, process_at, with_process, environment, depth, top, popped}
 use Rattle.rules.specs.Step.{Outcome, stack_fits, fields_zero, lacked_zero, wait_fits, leave_fits, record_fits, process_fits}
 use Rattle.rules.specs.Step.{completed, step_running, step_taken}
 use Rattle.rules.specs.Table.{Program, decode, Collective, barrier, broadcast, exchange, collective, statement_at}
 use Rattle.rules.specs.WellFormed.{is_statement}
-use Rattle.rules.proofs.ArrivalLaws.{RecordIs, with_arrival-length, with_arrival-same, with_arrival-other}
-use Rattle.rules.proofs.ArrivalLaws.{each_arrival-length}
+use Rattle.rules.proofs.ArrivalLaws.{RecordIs, with_arrival-length, with_arrival-same, with_arrival-other, each_arrival-length}
 use Rattle.rules.proofs.ChoiceLaws.{bool_cases, first-none, all_true, all-at}
 use Rattle.rules.proofs.CollectiveLaws.{completed-length, completed-at}
 use Rattle.rules.proofs.EntryLaws.{Statements, each-kept, each-popped, statements-fit, statements-advanced}
@@ -61,8 +59,8 @@ fits-same program state roll other q same =
 
 -- what is left to ask, by an answer
 abbrev pub LeftOf : Stepped → Program → List ℕ → List ℕ → ℕ → ℕ → Type 0
-LeftOf (Taken answer) program state roll count p = LeftBy answer.event program state roll count p
-LeftOf (Refused r) program state roll count p = ⊥
+LeftOf (Ok answer) program state roll count p = LeftBy answer.event program state roll count p
+LeftOf (Err r) program state roll count p = ⊥
 
 pub record Leaves (table : List ℕ) (count p : ℕ) (outcome : Outcome) : Type 0 where
   pub stated : length outcome.state ≡ process_words * count
@@ -288,7 +286,7 @@ module _ {table : List ℕ} {header : Header} {state roll : List ℕ} {count p :
         subst (λ s. LeftOf s (decode table) (step_taken (decode table) state roll count p).state (step_taken (decode table) state roll count p).roll count p)
         (sym as_taken.answered ∙ e) leaves.left
 
-    pub turned : {answer : Answer} → result ≡ Taken answer → Turned table header after rolled count p answer.event
+    pub turned : {answer : Answer} → result ≡ Ok answer → Turned table header after rolled count p answer.event
     turned e =
         rw (as_taken.left, as_taken.written)
         (record {
@@ -299,7 +297,7 @@ module _ {table : List ℕ} {header : Header} {state roll : List ℕ} {count p :
           left = left_of e;
         })
 
-    pub unrefused : {refusal : Refusal} → result ≡ Refused refusal → ⊥
+    pub unrefused : {refusal : Refusal} → result ≡ Err refusal → ⊥
     unrefused e = left_of e
 
     -- of a table without leaves nothing is left to ask

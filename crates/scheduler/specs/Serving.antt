@@ -1,7 +1,7 @@
 -- What a turn leaves to ask of question 23, and how a call that serves answers.
-use Rattle.std.specs.Prelude.{true, cond, List, ◌≢◌, ◌≡◌, ℕ, ◌*◌, ◌<◌, length}
+use Rattle.std.specs.Prelude.{true, cond, Option, Some, None, List, ◌≢◌, ◌≡◌, ℕ, ◌*◌, ◌<◌, length}
 use Rattle.rules.specs.declared.Event.{Event}
-use Rattle.rules.specs.declared.Verdict.{Verdict}
+use Rattle.rules.specs.Answers.{Verdict}
 use Rattle.rules.specs.declared.Event.TheVariants.{Moved, Finished, Arrived, Completed, Waiting, Ended}
 use Rattle.rules.specs.Arrivals.{arrival_size}
 use Rattle.rules.specs.Choice.{first_failing}
@@ -19,9 +19,9 @@ use Rattle.scheduler.specs.declared.Service.{Service}
 abbrev pub service : ℕ → ℕ → Verdict → Service
 service made last answer = record { made = made; last = last; answer = answer }
 
--- the process that is served next, or the count where none runs
-abbrev pub next_of : List ℕ → ℕ → ℕ → ℕ
-next_of roll count last = cond (some_runs roll last) (next_process roll last) count
+-- the process that is served next, if one runs
+abbrev pub next_of : List ℕ → ℕ → Option ℕ
+next_of roll last = cond (some_runs roll last) (Some (next_process roll last)) None
 
 -- the first process that question 23 fails of, or the count where it holds of all
 abbrev pub unfit_in : Program → List ℕ → List ℕ → ℕ → ℕ

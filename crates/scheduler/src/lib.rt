@@ -4,7 +4,7 @@
 
 ghost use Rattle.std.specs.Prelude.{true, false, ◌≡◌, ◌+◌, ◌*◌, ◌%◌, ◌<◌, length};
 ghost use Rattle.loops.specs.Upward.{has_leave};
-ghost use Rattle.rules.specs.declared.Verdict.TheVariants.{Accepted};
+ghost use Rattle.rules.specs.Answers.{Accepted};
 ghost use Rattle.rules.specs.Arrivals.{arrival_size, running, status_at};
 ghost use Rattle.rules.specs.Scheduling.{serving, served};
 ghost use Rattle.rules.specs.Step.{team_verdict, step_taken};
@@ -50,20 +50,18 @@ fn after(p: u32, count: u32) -> u32
 }
 
 // "the first running bank after that one, cyclically"
-fn next_process(roll: &[u32], count: u32, last: u32) -> u32
+fn next_process(roll: &[u32], count: u32, last: u32) -> Option<u32>
     requires { (length roll.now ≡ arrival_size * count) × (last < count) }
-    ensures { result ≡ next_of roll.now count last }
+    ensures { result ≡ next_of roll.now last }
 {
     let mut p = last;
-    let mut passed = 0;
-    while passed < count {
+    for _passed in 0..count {
         p = after(p, count);
         if status_at(roll, p as usize) == RUNNING {
-            return p;
+            return Some(p);
         }
-        passed += 1;
     }
-    count
+    None
 }
 
 // Question 23 after a turn of process p, put to what the turn may have changed.
@@ -118,11 +116,8 @@ fn make_turn(
         return count as usize;
     }
     match stepped {
-        Stepped::Taken(answer) => {
-            let event = answer.event;
-            first_left(table, header, state, roll, count as usize, p, event)
-        }
-        Stepped::Refused(_) => count as usize,
+        Ok(answer) => first_left(table, header, state, roll, count as usize, p, answer.event),
+        Err(_) => count as usize,
     }
 }
 
@@ -142,14 +137,12 @@ fn serve_asked(
 {
     // Where the table has no leave, a turn leaves nothing to ask of question 23.
     let leaving = has_leave(table, header);
-    let mut made = 0;
     let mut last = given;
     let mut unfit = count as usize;
-    while made < turns {
-        let next = next_process(roll, count, last);
-        if next == count {
-            return stopped(made, last, Verdict::Accepted);
-        }
+    for made in 0..turns {
+        let Some(next) = next_process(roll, count, last) else {
+            return stopped(made, last, Ok(()));
+        };
         if unfit < count as usize {
             return stopped(made, last, refused(23, unfit as u32));
         }
@@ -158,9 +151,8 @@ fn serve_asked(
         }
         unfit = make_turn(table, header, state, roll, count, next as usize, leaving);
         last = next;
-        made += 1;
     }
-    stopped(made, last, Verdict::Accepted)
+    stopped(turns, last, Ok(()))
 }
 
 fn serve_team(table: &[u8], state: &mut [u32], roll: &mut [u32], last: u32, turns: u32) -> Service
@@ -177,9 +169,8 @@ pub fn serve(table: &[u8], state: &mut [u32], roll: &mut [u32], last: u32, turns
     ensures { Serves (served table.now state.old roll.old last turns)
         result state.new roll.new }
 {
-    let verdict = asked(table, state, roll, last);
-    match verdict {
-        Verdict::Refused(refusal) => stopped(0, last, Verdict::Refused(refusal)),
-        Verdict::Accepted => serve_team(table, state, roll, last, turns),
+    match asked(table, state, roll, last) {
+        Ok(()) => serve_team(table, state, roll, last, turns),
+        Err(refusal) => stopped(0, last, Err(refusal)),
     }
 }

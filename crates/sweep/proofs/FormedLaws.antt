@@ -7,15 +7,13 @@ use Prim.Native.Nat.{ℕ, ◌≤◌, ◌<◌, min}
 use native.Mathlib.Omega.{arith}
 use borrow.Author.Tests.{lt-ltb, le-ltb}
 use Rattle.rules.specs.declared.Refusal.{Refusal}
-use Rattle.rules.specs.declared.Verdict.{Verdict}
-use Rattle.rules.specs.declared.Verdict.TheVariants.{Accepted, Refused}
+use Rattle.std.specs.Prelude.{Err}
+use Rattle.rules.specs.Answers.{Verdict, Accepted, refused, ◌then◌}
 use Rattle.rules.specs.Acceptance.{body_flagged, judged_by}
-use Rattle.rules.specs.Answers.{refused, ◌then◌}
 use Rattle.rules.specs.Choice.{first_failing}
 use Rattle.rules.specs.Table.{Program, decode, procedures, nodes, node_at, statement_at, Statement, nothing}
-use Rattle.rules.specs.WellFormed.{unnamed_zero, called_below, leave_enclosed, well_built, well_formed}
+use Rattle.rules.specs.WellFormed.{unnamed_zero, called_below, leave_enclosed, well_built, well_formed, question26}
 use Rattle.rules.specs.WellFormed.{question6, question7, question8, question9, question10, question11, question12}
-use Rattle.rules.specs.WellFormed.{question26}
 use Rattle.rules.proofs.AnswerLaws.{then_first, then_rest, then_assoc, each-passed}
 use Rattle.rules.proofs.ChoiceLaws.{first-none}
 use Rattle.rules.proofs.Formed.{Formed}
@@ -43,7 +41,7 @@ unfolding asked calls_asked well_formed well_built shape_verdict filled_verdict
 in_parts strictly table = simp then_assoc
 
 module _ (strictly : Bool) (table : List ℕ) where
-  pub misshapen : {r : Refusal} → shape_verdict table ≡ Refused r → shape_verdict table ≡ asked strictly table
+  pub misshapen : {r : Refusal} → shape_verdict table ≡ Err r → shape_verdict table ≡ asked strictly table
   misshapen e = rw (in_parts strictly table, e)
 
   pub shaped : shape_verdict table ≡ Accepted → (filled_verdict table then calls_asked strictly (decode table)) ≡ asked strictly table

@@ -1,5 +1,5 @@
 -- The loops over the nodes: what a visit adds, and where they begin.
-use mathlib.Core.Bool.{true, false, cond}
+use mathlib.Core.Bool.{true, false}
 use mathlib.Core.List.{List}
 use mathlib.Core.Logic.{◌⊎◌, inl, inr, ⊎_elim}
 use mathlib.Core.Path.{◌≡◌, refl, sym, ◌∙◌, ap}
@@ -12,7 +12,6 @@ use borrow.Author.Tests.{ltb-true}
 use borrow.Rule.Slice.PartMut.{put_mid}
 use Rattle.rules.specs.Table.{Program, decode, procedures, nodes, body, Statement}
 use Rattle.rules.specs.WellFormed.{parts_at, occurrences}
-use Rattle.rules.proofs.ChoiceLaws.{bool_cases}
 use Rattle.rules.proofs.AnywhereLaws.{either_cases}
 use Rattle.calls.specs.Blocks.{Blocks, more}
 use Rattle.calls.proofs.BlockLaws.{blocks-called}
@@ -42,21 +41,6 @@ visiting first n =
     record { header = first.header; node = n; limit = first.limit }
 
 module _ (table : List ℕ) (first : Visit) (end start : ℕ) (before : List ℕ) where
-  pub going-none : first.node ≤ end → length before ≡ all_planes → start ≤ none
-      → Going (decode table) first end start before before first.node start
-  going-none inside size low =
-      record {
-        from = omega arith;
-        to = inside;
-        size = size;
-        low = low;
-        marks = λ best swept. swept;
-        called = λ k from to. absurd (omega arith);
-        noted = λ so_far. so_far;
-        ruled = λ reading so_far. so_far;
-        used = λ k l e. inl e;
-      }
-
   pub going_more : Sized table first.header → end ≤ nodes (decode table)
       → (n rule found rule' : ℕ) (now after : List ℕ)
       → Going (decode table) first end start before now n rule
@@ -136,28 +120,17 @@ kept_on {program} {first} {n = n} g so_far =
 
 pub record Blocking (program : Program) (planes : List ℕ) (n p rule : ℕ) : Type 0 where
   pub to : n ≤ nodes program
-  pub within : p ≤ procedures program
   pub size : length planes ≡ all_planes
   pub low : rule ≤ none
   pub marks : SweptTo program n none (used_plane planes)
   pub kept : KeptTo program n rule planes
   pub blocks : Blocks program n p
 
--- the block of procedure p, where there is one from node n on
-pub block-is : (program : Program) (p n end : ℕ) → end ≡ cond (ltb (body program p) (nodes program)) (body program p + 1) 0 → n < end
-    → (end ≡ body program p + 1) × (body program p < nodes program)
-block-is program p n end e inside =
-    ⊎_elim
-    (λ (h : ltb (body program p) (nodes program) ≡ true). (e ∙ simp h, ltb-true _ _ h))
-    (λ (h : ltb (body program p) (nodes program) ≡ false). let z : end ≡ 0 = e ∙ simp h in absurd (omega arith))
-    (bool_cases (ltb (body program p) (nodes program)))
-
 module _ (program : Program) where
   pub blocking_none : Blocking program (replicate all_planes 0) 0 0 none
   blocking_none =
       record {
         to = omega arith;
-        within = omega arith;
         size = refl;
         low = omega arith;
         marks = swept_none program;
@@ -166,18 +139,7 @@ module _ (program : Program) where
       }
 
   module _ {planes : List ℕ} {n p rule : ℕ} (b : Blocking program planes n p rule) where
-    pub blocking_stops : InBlocks program planes (record { node = n; rule = rule; ordered = false })
-    blocking_stops =
-        record {
-          to = b.to;
-          size = b.size;
-          low = b.low;
-          marks = b.marks;
-          kept = b.kept;
-          called = λ e. never (sym e);
-        }
-
-    pub blocking_ends : p ≡ procedures program → InBlocks program planes (record { node = n; rule = rule; ordered = true })
+    pub blocking_ends : p ≡ procedures program → InBlocks program planes (record { reached = record { node = n; rule = rule }; ordered = true })
     blocking_ends all =
         record {
           to = b.to;
@@ -191,9 +153,9 @@ module _ (program : Program) where
     abbrev in_block : Header → Visit
     in_block header = record { header = header; node = n; limit = p }
 
-    module _ (header : Header) (end : ℕ) (within : end ≤ nodes program) (after : List ℕ) (r : Reached)
-        (q : Quickly program (in_block header) end rule planes after r) where
-      pub block-stops : InBlocks program after (record { node = r.node; rule = r.rule; ordered = false })
+    module _ (header : Header) (last : ℕ) (within : last < nodes program) (after : List ℕ) (r : Reached)
+        (q : Quickly program (in_block header) (last + 1) rule planes after r) where
+      pub block-stops : InBlocks program after (record { reached = r; ordered = false })
       block-stops =
           record {
             to = omega (arith, q.going.to);
@@ -204,13 +166,12 @@ module _ (program : Program) where
             called = λ e. never (sym e);
           }
 
-      pub block_more : p < procedures program → n < end → end ≡ body program p + 1 → (r.node < end → ⊥)
+      pub block_more : p < procedures program → n ≤ last → last ≡ body program p → (r.node ≤ last → ⊥)
           → Blocking program after r.node (p + 1) r.rule
-      block_more here inside last whole =
+      block_more here inside is whole =
           let all : r.node ≡ body program p + 1 = omega (arith, q.going.to) in
           record {
             to = omega (arith, q.going.to);
-            within = omega arith;
             size = q.going.size;
             low = q.going.low;
             marks = q.going.marks none b.marks;
@@ -236,7 +197,7 @@ module _ (table : List ℕ) (header : Header) (sized : Sized table header) where
   from-node n = record { header = header; node = n; limit = header.procedures }
 
   pub resting_none : (blocked : Blocked) (planes after : List ℕ) (r : Reached) → InBlocks (decode table) planes blocked
-      → Quickly (decode table) (from-node blocked.node) header.nodes blocked.rule planes after r
+      → Quickly (decode table) (from-node blocked.reached.node) header.nodes blocked.reached.rule planes after r
       → Resting (decode table) after none r
   resting_none blocked planes after r b q =
       record {

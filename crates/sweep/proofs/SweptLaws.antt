@@ -12,8 +12,9 @@ use borrow.Author.Tests.{lt-ltb, le-ltb}
 use Rattle.rules.specs.Table.{Program, nodes, node_at}
 use Rattle.rules.specs.WellFormed.{kind_known, unnamed_zero, node_fits, parts_at, joined}
 use Rattle.rules.proofs.ChoiceLaws.{bool_cases}
+use Rattle.table.specs.declared.fields.Role.{Role}
 use Rattle.table.specs.Marks.{bit_at, with_bit, with_bits}
-use Rattle.table.specs.Roles.{is_part, role_of, field_fits, field_parts}
+use Rattle.table.specs.Roles.{roles_of, is_part, field_fits, field_parts}
 use Rattle.table.specs.Uses.{noted, repeated}
 use Rattle.table.proofs.FittingLaws.{part-below, fields_fit}
 use Rattle.table.proofs.OnceLaws.{zeros}
@@ -93,7 +94,7 @@ module _ {count early best : ℕ} {list marks : List ℕ} (few : count ≤ 256) 
 
 -- a node
 
-field-inside : (program : Program) (n count role value : ℕ) → n < count → field_fits program n role value ≡ true
+field-inside : (program : Program) (n count : ℕ) (role : Role) (value : ℕ) → n < count → field_fits program n role value ≡ true
     → Inside count (field_parts role value)
 unfolding field_parts
 field-inside program n count role value below fits =
@@ -108,9 +109,9 @@ parts-inside program n count below fits =
     let m = node_at program n in
     let fit = fields_fit program n fits in
     rw (parts_law program n)
-    (inside_append (field-inside program n count (role_of m.kind 100) m.a below fit.0)
-    (inside_append (field-inside program n count (role_of m.kind 10) m.b below fit.1)
-    (field-inside program n count (role_of m.kind 1) m.c below fit.2)))
+    (inside_append (field-inside program n count (roles_of m.kind).a m.a below fit.0)
+    (inside_append (field-inside program n count (roles_of m.kind).b m.b below fit.1)
+    (field-inside program n count (roles_of m.kind).c m.c below fit.2)))
 
 pub joined-more : (list : ℕ → List ℕ) (n : ℕ) → joined list (n + 1) ≡ joined list n ++ list n
 unfolding joined

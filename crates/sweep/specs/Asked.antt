@@ -1,9 +1,7 @@
 -- The questions in the parts that the code asks them in.
 use Rattle.std.specs.Prelude.{Bool, cond, not, ◌||◌, List, ◌≡◌, ℕ, length}
-use Rattle.rules.specs.declared.Verdict.{Verdict}
-use Rattle.rules.specs.declared.Verdict.TheVariants.{Accepted}
+use Rattle.rules.specs.Answers.{Verdict, Accepted, ◌then◌}
 use Rattle.rules.specs.Acceptance.{judged_by}
-use Rattle.rules.specs.Answers.{◌then◌}
 use Rattle.rules.specs.Choice.{first_failing}
 use Rattle.rules.specs.Table.{Program, decode, nodes, body, effect_flag, statement_at}
 use Rattle.rules.specs.WellFormed.{called_below, question12, question26, well_formed}

@@ -1,6 +1,6 @@
 -- What the loops over the nodes establish.
 use Rattle.std.specs.Prelude.{true, List, ◌⊎◌, ◌≡◌, ℕ, ◌≤◌, ◌<◌, length}
-use Rattle.rules.specs.declared.Verdict.TheVariants.{Accepted}
+use Rattle.rules.specs.Answers.{Accepted}
 use Rattle.rules.specs.Table.{Program, procedures, nodes, statement_at, Statement}
 use Rattle.rules.specs.WellFormed.{parts_at, occurrences, question12}
 use Rattle.table.specs.Marks.{bit_at}
@@ -50,11 +50,11 @@ pub record Quickly (program : Program) (first : Visit) (end start : ℕ) (before
 
 -- block by block. If every procedure had its block, every call names a procedure below its own.
 pub record InBlocks (program : Program) (planes : List ℕ) (r : Blocked) : Type 0 where
-  pub to : r.node ≤ nodes program
+  pub to : r.reached.node ≤ nodes program
   pub size : length planes ≡ all_planes
-  pub low : r.rule ≤ none
-  pub marks : SweptTo program r.node none (used_plane planes)
-  pub kept : KeptTo program r.node r.rule planes
+  pub low : r.reached.rule ≤ none
+  pub marks : SweptTo program r.reached.node none (used_plane planes)
+  pub kept : KeptTo program r.reached.node r.reached.rule planes
   pub called : r.ordered ≡ true → question12 program ≡ Accepted
 
 -- all nodes. What is kept matters only where no earlier question fails.

@@ -1,7 +1,6 @@
 -- What a sweep keeps: the least refusal so far, and marks of the nodes used.
 use Rattle.std.specs.Prelude.{cond, List, ◌≡◌, ℕ, ◌≤◌, ◌<◌, min, ltb, replicate}
-use Rattle.rules.specs.declared.Verdict.{Verdict}
-use Rattle.rules.specs.Answers.{◌then◌}
+use Rattle.rules.specs.Answers.{Verdict, ◌then◌}
 use Rattle.rules.specs.Choice.{first_failing}
 use Rattle.rules.specs.Table.{Program, decode, procedures, nodes, body, node_at}
 use Rattle.rules.specs.WellFormed.{procedure_fits, is_statement, kind_known, unnamed_zero, node_fits, parts_at, joined, uses}

@@ -37,12 +37,9 @@ fn sweep_bodies(table: &[u8], header: Header, marks: &mut [u32], first: usize) -
     requires { Sized table.now header × (length marks.old ≡ plane_words) × AfterNodes (decode table.now) first marks.old }
     ensures { AfterBodies table.now result marks.new × (length marks.new ≡ plane_words) × (result ≤ first) }
 {
-    let count = header.procedures;
     let mut best = first;
-    let mut p = 0;
-    while p < count {
+    for p in 0..header.procedures {
         best = sweep_body(table, header, marks, best, p);
-        p += 1;
     }
     best
 }
@@ -90,12 +87,9 @@ pub fn unflagged(table: &[u8], header: Header, planes: &[u32], rule: usize) -> u
     requires { Filled table.now header × (length planes.now ≡ all_planes) × (rule ≤ none) }
     ensures { result ≡ min rule (least_below (effect_code (decode table.now) (facts_plane planes.now)) (procedures (decode table.now))) }
 {
-    let count = header.procedures;
     let mut best = rule;
-    let mut p = 0;
-    while p < count {
+    for p in 0..header.procedures {
         best = flag_body(table, header, planes, best, p);
-        p += 1;
     }
     best
 }

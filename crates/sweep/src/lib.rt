@@ -5,10 +5,9 @@
 
 ghost use Rattle.std.specs.Prelude.{true, ◌≡◌, length, replicate};
 ghost use Rattle.rules.specs.Acceptance.{judged_by};
-ghost use Rattle.rules.specs.Answers.{◌then◌};
+ghost use Rattle.rules.specs.Answers.{◌then◌, Accepted};
 ghost use Rattle.rules.specs.Table.{decode, nodes, statement_at};
 ghost use Rattle.rules.specs.WellFormed.{question12, well_formed};
-ghost use Rattle.rules.specs.declared.Verdict.TheVariants.{Accepted};
 ghost use Rattle.sweep.specs.Asked.{Filled, FirstCall, calls_asked, asked};
 ghost use Rattle.sweep.specs.Nodes.{KeptTo};
 ghost use Rattle.sweep.specs.Swept.{filled_verdict};
@@ -41,11 +40,10 @@ pub struct Reached {
     pub rule: usize,
 }
 
-// The same, and whether the bodies stood in their procedures' order and every call went down.
+// The same of a sweep by blocks, and whether the bodies stood in their procedures' order and every call went down.
 #[derive(Clone, Copy)]
 pub struct Blocked {
-    pub node: usize,
-    pub rule: usize,
+    pub reached: Reached,
     pub ordered: bool,
 }
 
@@ -93,7 +91,7 @@ fn ask_calls(
     if judged {
         return verdict(unflagged(table, header, planes, rule));
     }
-    Verdict::Accepted
+    Ok(())
 }
 
 // Questions 6 to 12, 26 and 13 to 17 of a table that passes 2 to 5.
@@ -114,11 +112,8 @@ fn ask(table: &[u8], planes: &mut [u32], judged: bool) -> Verdict
     requires { planes.old ≡ replicate all_planes 0 }
     ensures { result ≡ asked judged table.now }
 {
-    let shaped = shape(table);
-    match shaped {
-        Verdict::Refused(_) => shaped,
-        Verdict::Accepted => ask_contents(table, header(table), planes, judged),
-    }
+    shape(table)?;
+    ask_contents(table, header(table), planes, judged)
 }
 
 // Questions 2 to 12 and 26.

@@ -1,6 +1,6 @@
 // All nodes in their order: quickly while nothing fails, from body to body as long as these stand in their procedures' order.
-ghost use Rattle.std.specs.Prelude.{cond, ◌≡◌, ◌+◌, ◌<◌, ◌≤◌, ltb, length, replicate};
-ghost use Rattle.rules.specs.Table.{decode, nodes, body};
+ghost use Rattle.std.specs.Prelude.{◌≡◌, ◌≤◌, length, replicate};
+ghost use Rattle.rules.specs.Table.{decode};
 ghost use Rattle.sweep.specs.Nodes.{Quickly, InBlocks, AllNodes};
 ghost use Rattle.table.specs.Sized.{Sized};
 ghost use Rattle.visit.specs.Least.{none};
@@ -27,77 +27,55 @@ pub fn sweep_quickly(
 {
     let header = first.header;
     let mut rule = start;
-    let mut n = first.node;
-    while n < end {
+    for node in first.node..end {
         let visit = Visit {
-            header: header,
-            node: n,
+            header,
+            node,
             limit: first.limit,
         };
-        let packed = packed_at(table, header, n);
+        let packed = packed_at(table, header, node);
         let found = quick(table, planes, visit, packed);
         if found == STUCK {
-            return Reached {
-                node: n,
-                rule: rule,
-            };
+            return Reached { node, rule };
         }
         rule = lesser(rule, found);
-        n += 1;
     }
-    Reached {
-        node: n,
-        rule: rule,
-    }
+    Reached { node: end, rule }
 }
 
-// The end of the block of procedure p, which is the nodes up to its body; 0 where the body is no node.
-fn block_end(table: &[u8], header: Header, p: usize) -> usize
-    requires { Sized table.now header × (p < header.procedures) }
-    ensures { result ≡ cond (ltb (body (decode table.now) p) (nodes (decode table.now))) (body (decode table.now) p + 1) 0 }
-{
-    let last = body(table, p);
-    if last < header.nodes { last + 1 } else { 0 }
-}
-
-// Block by block: the nodes up to each body, as long as the bodies stand in their procedures' order and the nodes call lower ones only.
+// Block by block, each the nodes up to its procedure's body, as long as the bodies stand in their procedures' order and the nodes call
+// lower ones only.
 fn sweep_blocks(table: &[u8], header: Header, planes: &mut [u32]) -> Blocked
     requires { Sized table.now header × (planes.old ≡ replicate all_planes 0) }
     ensures { InBlocks (decode table.now) planes.new result }
 {
-    let count = header.procedures;
-    let mut rule = NONE;
-    let mut n = 0;
-    let mut p = 0;
-    while p < count {
-        let end = block_end(table, header, p);
-        if end <= n {
+    let mut reached = Reached {
+        node: 0,
+        rule: NONE,
+    };
+    for p in 0..header.procedures {
+        let last = body(table, p);
+        if last < reached.node || header.nodes <= last {
             return Blocked {
-                node: n,
-                rule: rule,
+                reached,
                 ordered: false,
             };
         }
         let first = Visit {
-            header: header,
-            node: n,
+            header,
+            node: reached.node,
             limit: p,
         };
-        let reached = sweep_quickly(table, planes, first, end, rule);
-        rule = reached.rule;
-        n = reached.node;
-        if n < end {
+        reached = sweep_quickly(table, planes, first, last + 1, reached.rule);
+        if reached.node <= last {
             return Blocked {
-                node: n,
-                rule: rule,
+                reached,
                 ordered: false,
             };
         }
-        p += 1;
     }
     Blocked {
-        node: n,
-        rule: rule,
+        reached,
         ordered: true,
     }
 }
@@ -111,23 +89,24 @@ fn sweep_rest(table: &[u8], header: Header, planes: &mut [u32], blocked: Blocked
     let limit = header.procedures;
     let mut best = NONE;
     let first = Visit {
-        header: header,
-        node: blocked.node,
-        limit: limit,
+        header,
+        node: blocked.reached.node,
+        limit,
     };
-    let mut reached = sweep_quickly(table, planes, first, count, blocked.rule);
+    let mut reached = sweep_quickly(table, planes, first, count, blocked.reached.rule);
+    // A quick sweep says itself how far it got.
     while reached.node < count {
         let n = reached.node;
         best = exact(table, header, &mut planes[0..PLANE], best, n);
         let next = Visit {
-            header: header,
+            header,
             node: n + 1,
-            limit: limit,
+            limit,
         };
         reached = sweep_quickly(table, planes, next, count, reached.rule);
     }
     Found {
-        best: best,
+        best,
         rule: reached.rule,
         ordered: blocked.ordered,
     }

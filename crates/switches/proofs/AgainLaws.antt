@@ -4,7 +4,7 @@ use mathlib.Core.Bool.{Bool, true, false, cond, not, ◌&&◌, ◌||◌}
 use mathlib.Core.List.{List, [], ◌∷◌}
 use mathlib.Core.Logic.{inl, inr, ⊎_elim}
 use mathlib.Core.Path.{◌≡◌, refl, sym, ◌∙◌, ap}
-use Prim.Native.Nat.{ℕ, ◌+◌, ◌≤◌, ◌<◌}
+use Prim.Native.Nat.{ℕ, zero, suc, ◌+◌, ◌≤◌, ◌<◌}
 use native.Mathlib.Decide.{dec_lt}
 use native.Mathlib.Omega.{arith}
 use lib.Dec.{eqb}
@@ -38,7 +38,7 @@ use Rattle.visit.specs.Fields.{used_plane, facts_plane, leaves_plane, all_planes
 use Rattle.visit.specs.Least.{none, failure}
 use Rattle.visit.proofs.FactLaws.{plane_more, fact-statement}
 use Rattle.visit.proofs.LeastLaws.{least_more, least-high}
-use Rattle.switches.specs.Again.{Stretch, Beside, VisitedTo}
+use Rattle.switches.specs.Again.{Stretch, AllMarked, Beside, VisitedTo}
 use Rattle.switches.specs.Aside.{aside_plane}
 use Rattle.switches.proofs.AsideLaws.{each-counted}
 
@@ -241,7 +241,31 @@ module _ (program : Program) (formed : Formed program) (planes : List ℕ) (besi
   pub stretch_counts : (k : ℕ) → n ≤ k → k < end → counted program k ≡ statement_at program k
   stretch_counts k from to = beside.aside.counts k (omega (arith, stretch.to)) (stretch.free k from to)
 
-  -- where there are none, the first node is set aside
-  pub stretch_dead : n < nodes program → end ≡ n → (is_statement program n ≡ true) × (live program n ≡ false)
-  stretch_dead low none =
-      beside.aside.dead n (omega (arith, formed.nodes-high)) (rw none at (stretch.stop (omega arith)))
+-- what holds from one number to the next holds from n on
+climb : (P : ℕ → Type 0) (n to : ℕ) → ((k : ℕ) → n ≤ k → k < to → P k → P (k + 1)) → n ≤ to → P n → P to
+climb P n zero more l h = let e : n ≡ zero = omega arith in rw e at h
+climb P n (suc to) more l h =
+    elim (dec_lt n (suc to)) [
+      | yes below ↦
+          let before : P to = climb P n to (λ k from under. more k from (omega arith)) (omega arith) h in
+          let here : to + 1 ≡ suc to = omega arith in
+          rw here at (more to (omega arith) (omega arith) before)
+      | no past ↦ let e : n ≡ suc to = omega arith in rw e at h
+    ]
+
+-- over nodes that are all set aside
+module _ (table : List ℕ) (formed : Formed (decode table)) (planes : List ℕ) (beside : Beside (decode table) planes) (n to : ℕ)
+    (past : AllMarked (aside_plane planes) n to) (on : n ≤ to) (low : to ≤ nodes (decode table)) where
+  dead-at : (k : ℕ) → n ≤ k → k < to → (is_statement (decode table) k ≡ true) × (live (decode table) k ≡ false)
+  dead-at k from under = beside.aside.dead k (omega (arith, formed.nodes-high)) (past k from under)
+
+  pub visited-over : (work : List ℕ) (rule : ℕ) → VisitedTo (decode table) n work rule → VisitedTo (decode table) to work rule
+  visited-over work rule =
+      climb (λ k. VisitedTo (decode table) k work rule) n to
+      (λ k from under. visited-past table formed k (omega (arith, formed.nodes-high)) (dead-at k from under).0 (dead-at k from under).1 work rule) on
+
+  pub passed-over : (rule : ℕ) (start work : List ℕ) (least : ℕ) → PassedTo (decode table) (counted (decode table)) rule start n work least
+      → PassedTo (decode table) (counted (decode table)) rule start to work least
+  passed-over rule start work least =
+      climb (λ k. PassedTo (decode table) (counted (decode table)) rule start k work least) n to
+      (λ k from under. passed-past table formed k (omega (arith, formed.nodes-high)) (dead-at k from under).0 (dead-at k from under).1 rule start work least) on

@@ -1,7 +1,7 @@
 -- The four planes as two parts that are lent: those of the sweep, and that of the statements set aside.
 use mathlib.Core.List.{List, ◌++◌, append-nil}
 use mathlib.Core.Path.{◌≡◌, sym, ◌∙◌, ap}
-use Prim.Native.Nat.{ℕ, ◌*◌, ◌<◌}
+use Prim.Native.Nat.{ℕ}
 use native.Mathlib.Omega.{arith}
 use lib.ListN.{length, length-drop, drop_of_length-le}
 use lib.Seq.{length-take-le, take_all, take_at, drop_at}
@@ -20,10 +20,6 @@ module _ (planes : List ℕ) (size : length planes ≡ four_planes) where
 
   pub aside-lent : mid_of all_planes plane_words planes ≡ aside_plane planes
   aside-lent = take_all plane_words (aside_plane planes) (omega (arith, aside-length))
-
-  -- a node's place in the plane that is lent
-  pub aside-bound : {n : ℕ} → n < 256 → n < 32 * length (mid_of all_planes plane_words planes)
-  aside-bound l = omega (arith, ap length aside-lent, aside-length)
 
   -- back with other words
   module _ (words : List ℕ) (many : length words ≡ all_planes) where

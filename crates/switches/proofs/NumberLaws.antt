@@ -7,10 +7,9 @@ use Prim.Native.Nat.{ℕ, ◌+◌, ◌-◌, ◌*◌, ◌%◌, ◌^◌}
 use lib.Dec.{leb, ltb, eqb}
 use lib.ListN.{length}
 use Rattle.rules.specs.declared.Refusal.{Refusal}
-use Rattle.rules.specs.declared.Verdict.{Verdict}
-use Rattle.rules.specs.declared.Verdict.TheVariants.{Accepted, Refused}
+use Rattle.std.specs.Prelude.{Ok, Err}
+use Rattle.rules.specs.Answers.{Verdict, Accepted, ◌then◌, ask, ask_each}
 use Rattle.rules.specs.Acceptance.{question_of, question17, judged_by, judged}
-use Rattle.rules.specs.Answers.{◌then◌, ask, ask_each}
 use Rattle.rules.specs.Choice.{first_failing}
 use Rattle.rules.specs.Table.{Program, decode, word_at, variables, procedures, nodes, statement_at, Statement}
 use Rattle.rules.specs.WellFormed.{most_table_bytes, header_fits, question2, question3, question4, question5, question6, question7, question8, question9}
@@ -24,7 +23,7 @@ use Rattle.rules.proofs.VisibleLaws.{contrary}
 -- a refusal, if it is one, by a question of which the test holds
 data By (test : ℕ → Bool) : Verdict → Type 0 where
   passed : By test Accepted
-  failed : {r : Refusal} → test r.number ≡ true → By test (Refused r)
+  failed : {r : Refusal} → test r.number ≡ true → By test (Err r)
 
 module _ {test : ℕ → Bool} where
   by_then : {v w : Verdict} → By test v → By test w → By test (v then w)
@@ -78,34 +77,34 @@ rule_numbers program reading =
     let q17 : By by_rules (question17 program reading) = by-each 17 _ _ refl in
     by_then (question 13 refl) (by_then (question 14 refl) (by_then (question 15 refl) (by_then (question 16 refl) q17)))
 
-numbered : {r s : Refusal} → Refused r ≡ Refused s → r.number ≡ s.number
+numbered : {r s : Refusal} → ◌≡◌ {A = Verdict} (Err r) (Err s) → r.number ≡ s.number
 numbered {r} {s} e = cc
 
 -- a refusal by 13 to 17 is of a table that is well formed
-by-second : (v w : Verdict) (r : Refusal) → Refused r ≡ (v then w) → By others v → by_rules r.number ≡ true
-    → (v ≡ Accepted) × (Refused r ≡ w)
-by-second Accepted w r e by h = (refl, e)
-by-second (Refused s) w r e by h =
+by-second : (v w : Verdict) (r : Refusal) → Err r ≡ (v then w) → By others v → by_rules r.number ≡ true
+    → (v ≡ Accepted) × (Err r ≡ w)
+by-second (Ok _) w r e by h = (refl, e)
+by-second (Err s) w r e by h =
     let same : by_rules s.number ≡ true = ap by_rules (sym (numbered e)) ∙ h in
     absurd (contrary (by_rules s.number) same (refuted by))
   where
-    refuted : By others (Refused s) → by_rules s.number ≡ false
+    refuted : By others (Err s) → by_rules s.number ≡ false
     refuted (failed e) = not-true (by_rules s.number) e
 
 -- any other is of one that is not
-by_first : (v w next : Verdict) (r : Refusal) → Refused r ≡ (v then w) → By by_rules w → by_rules r.number ≡ false
-    → Refused r ≡ (v then next)
-by_first Accepted w next r e by h = absurd (contrary (by_rules r.number) (refuted (rw (← e) at by)) h)
+by_first : (v w next : Verdict) (r : Refusal) → Err r ≡ (v then w) → By by_rules w → by_rules r.number ≡ false
+    → Err r ≡ (v then next)
+by_first (Ok _) w next r e by h = absurd (contrary (by_rules r.number) (refuted (rw (← e) at by)) h)
   where
-    refuted : By by_rules (Refused r) → by_rules r.number ≡ true
+    refuted : By by_rules (Err r) → by_rules r.number ≡ true
     refuted (failed e) = e
-by_first (Refused s) w next r e by h = e
+by_first (Err s) w next r e by h = e
 
-module _ (table : List ℕ) (r : Refusal) (e : Refused r ≡ (well_formed table then judged_by (decode table) (statement_at (decode table)))) where
-  pub refused-judged : by_rules r.number ≡ true → (well_formed table ≡ Accepted) × (Refused r ≡ judged_by (decode table) (statement_at (decode table)))
+module _ (table : List ℕ) (r : Refusal) (e : Err r ≡ (well_formed table then judged_by (decode table) (statement_at (decode table)))) where
+  pub refused-judged : by_rules r.number ≡ true → (well_formed table ≡ Accepted) × (Err r ≡ judged_by (decode table) (statement_at (decode table)))
   refused-judged h = by-second (well_formed table) (judged_by (decode table) (statement_at (decode table))) r e (well_numbers table) h
 
-  pub refused-formed : by_rules r.number ≡ false → Refused r ≡ (well_formed table then judged (decode table))
+  pub refused-formed : by_rules r.number ≡ false → Err r ≡ (well_formed table then judged (decode table))
   refused-formed h =
       by_first (well_formed table) (judged_by (decode table) (statement_at (decode table))) (judged (decode table)) r e (rule_numbers (decode table) (statement_at (decode table))) h
 

@@ -1,15 +1,16 @@
 -- What the second time over the nodes keeps, by the nodes that count.
 use Rattle.std.specs.Prelude.{true, false, List, ◌≡◌, ℕ, ◌≤◌, ◌<◌, length}
-use Rattle.leaves.specs.Leaves.{PassedTo}
 use Rattle.rules.specs.Judgement.{counted}
-use Rattle.rules.specs.Table.{Program, nodes}
+use Rattle.rules.specs.Table.{Program}
 use Rattle.rules.specs.WellFormed.{parts_at, occurrences}
-use Rattle.sweep.specs.declared.Reached.{Reached}
 use Rattle.sweep.specs.Nodes.{RuledTo}
 use Rattle.table.specs.Marks.{bit_at}
 use Rattle.visit.specs.Fields.{used_plane, all_planes}
-use Rattle.visit.specs.Least.{none}
 use Rattle.switches.specs.Aside.{aside_plane, four_planes, Aside}
+
+-- each node from n up to `end` is marked
+abbrev pub AllMarked : List ℕ → ℕ → ℕ → Type 0
+AllMarked marks n end = (k : ℕ) → n ≤ k → k < end → bit_at marks k ≡ true
 
 -- no node from n up to `end` is marked, and `end` is where it is not the last
 pub record Stretch (marks : List ℕ) (n count end : ℕ) : Type 0 where
@@ -28,15 +29,3 @@ pub record VisitedTo (program : Program) (n : ℕ) (planes : List ℕ) (rule : �
   pub size : length planes ≡ all_planes
   pub ruled : RuledTo program (counted program) n rule planes
   pub used : (k : ℕ) → k < 256 → bit_at (used_plane planes) k ≡ true → (m : ℕ) × (m < n) × (1 ≤ occurrences k (parts_at program m))
-
--- a node more at the least
-pub record Onward (program : Program) (before after : Reached) : Type 0 where
-  pub more : before.node < after.node
-  pub within : after.node ≤ nodes program
-  pub low : after.rule ≤ none
-
--- from one node to another, if the nodes below the first that count are passed over for their leaves
-abbrev pub PassesOn : Program → List ℕ → List ℕ → Reached → Reached → Type 0
-PassesOn program before after from reached =
-    (rule : ℕ) (begun : List ℕ) → PassedTo program (counted program) rule begun from.node before from.rule
-    → PassedTo program (counted program) rule begun reached.node after reached.rule

@@ -1,11 +1,11 @@
 // The rules again, over the nodes that count: each stretch of them is swept as the first time, and passed over for its leaves.
-ghost use Rattle.std.specs.Prelude.{◌≡◌, ◌≤◌, ◌<◌, length, replicate};
+ghost use Rattle.std.specs.Prelude.{◌≡◌, ◌≤◌, ◌<◌, ℕ, length, replicate, MatchOption};
 ghost use Rattle.leaves.specs.Leaves.{left_plane, LeavesPassed};
 ghost use Rattle.rules.specs.Judgement.{counted};
 ghost use Rattle.rules.specs.Table.{decode, nodes};
 ghost use Rattle.rules.specs.WellFormed.{well_formed};
 ghost use Rattle.table.specs.Header.{Passing};
-ghost use Rattle.switches.specs.Again.{Stretch, Beside, VisitedTo, Onward, PassesOn};
+ghost use Rattle.switches.specs.Again.{Stretch, AllMarked, Beside, VisitedTo};
 ghost use Rattle.switches.specs.Aside.{four_planes, work_planes, aside_plane};
 ghost use Rattle.visit.specs.Fields.{leaves_plane, plane_words, all_planes};
 ghost use Rattle.visit.specs.Least.{none};
@@ -13,7 +13,6 @@ ghost use Rattle.visit.specs.Least.{none};
 use crate::{ASIDE, FOUR_PLANES};
 use leaves::pass_nodes;
 use loops::has_leave;
-use sweep::Reached;
 use sweep::nodes::sweep_quickly;
 use table::Header;
 use table::marks::marked;
@@ -25,39 +24,26 @@ fn stretch_end(planes: &[u32], n: usize, count: usize) -> usize
     requires { (length planes.now ≡ four_planes) × (n ≤ count) × (count ≤ 256) }
     ensures { Stretch (aside_plane planes.now) n count result }
 {
-    let mut end = n;
-    while end < count {
+    for end in n..count {
         if marked(&planes[ASIDE..FOUR_PLANES], end) {
             return end;
         }
-        end += 1;
     }
-    end
+    count
 }
 
-// The stretch that begins at the next node, or that node alone if it is set aside.
-fn visit_stretch(table: &[u8], header: Header, planes: &mut [u32], from: Reached) -> Reached
-    requires { Passing well_formed table.now header × (from.node < nodes (decode table.now))
-        × Beside (decode table.now) planes.old
-        × VisitedTo (decode table.now) from.node (work_planes planes.old) from.rule }
-    ensures { Onward (decode table.now) from result × Beside (decode table.now) planes.new
-        × VisitedTo (decode table.now) result.node (work_planes planes.new) result.rule }
+// The next stretch of nodes that count, from n on: its first node and its end. There is none where all are set aside.
+fn next_stretch(planes: &[u32], n: usize, count: usize) -> Option<(usize, usize)>
+    requires { (length planes.now ≡ four_planes) × (n ≤ count) × (count ≤ 256) }
+    ensures { MatchOption result (AllMarked (aside_plane planes.now) n count)
+        (λ (s : ℕ × ℕ). AllMarked (aside_plane planes.now) n s.0 × (n ≤ s.0) × (s.0 < s.1) × Stretch (aside_plane planes.now) s.0 count s.1) }
 {
-    let n = from.node;
-    let end = stretch_end(planes, n, header.nodes);
-    if end == n {
-        let next = n + 1;
-        return Reached {
-            node: next,
-            rule: from.rule,
-        };
+    for first in n..count {
+        if !marked(&planes[ASIDE..FOUR_PLANES], first) {
+            return Some((first, stretch_end(planes, first, count)));
+        }
     }
-    let first = Visit {
-        header: header,
-        node: n,
-        limit: header.procedures,
-    };
-    sweep_quickly(table, &mut planes[0..ASIDE], first, end, from.rule)
+    None
 }
 
 // The least refusal of 13 to 16 at the nodes that count, as far as that does not look at leaves; their facts are kept.
@@ -67,38 +53,18 @@ pub(crate) fn visit_again(table: &[u8], header: Header, planes: &mut [u32]) -> u
     ensures { Beside (decode table.now) planes.new
         × VisitedTo (decode table.now) (nodes (decode table.now)) (work_planes planes.new) result }
 {
-    let count = header.nodes;
-    let mut reached = Reached {
-        node: 0,
-        rule: NONE,
-    };
-    while reached.node < count {
-        reached = visit_stretch(table, header, planes, reached);
-    }
-    reached.rule
-}
-
-// The same for what the nodes hold of leaves.
-fn pass_stretch(table: &[u8], header: Header, planes: &mut [u32], from: Reached) -> Reached
-    requires { Passing well_formed table.now header × (from.node < nodes (decode table.now))
-        × Beside (decode table.now) planes.old × (from.rule ≤ none) }
-    ensures { Onward (decode table.now) from result × Beside (decode table.now) planes.new
-        × PassesOn (decode table.now) (work_planes planes.old) (work_planes planes.new) from result }
-{
-    let n = from.node;
-    let end = stretch_end(planes, n, header.nodes);
-    if end == n {
-        let next = n + 1;
-        return Reached {
-            node: next,
-            rule: from.rule,
+    let mut least = NONE;
+    let mut n = 0;
+    while let Some((node, end)) = next_stretch(planes, n, header.nodes) {
+        let first = Visit {
+            header,
+            node,
+            limit: header.procedures,
         };
+        least = sweep_quickly(table, &mut planes[0..ASIDE], first, end, least).rule;
+        n = end;
     }
-    let least = pass_nodes(table, header, &mut planes[0..ASIDE], from.rule, n, end);
-    Reached {
-        node: end,
-        rule: least,
-    }
+    least
 }
 
 // The least refusal once 16 is asked of whiles that are left locally and count, over planes that are cleared for it.
@@ -111,13 +77,11 @@ pub(crate) fn pass_again(table: &[u8], header: Header, planes: &mut [u32], rule:
     if !has_leave(table, header) {
         return rule;
     }
-    let count = header.nodes;
-    let mut reached = Reached {
-        node: 0,
-        rule: rule,
-    };
-    while reached.node < count {
-        reached = pass_stretch(table, header, planes, reached);
+    let mut least = rule;
+    let mut n = 0;
+    while let Some((first, end)) = next_stretch(planes, n, header.nodes) {
+        least = pass_nodes(table, header, &mut planes[0..ASIDE], least, first, end);
+        n = end;
     }
-    reached.rule
+    least
 }

@@ -7,10 +7,10 @@ ghost use Rattle.switches.specs.Aside.{inner_parts, never_parts, aside_marks, As
 ghost use Rattle.table.specs.Marks.{with_bits};
 ghost use Rattle.visit.specs.Fields.{plane_words};
 
+use rules::kinds::{BRANCH, LOOP, SEQUENCE};
 use table::Header;
 use table::marks::{mark, marked};
 use table::words::{kind_at, node_at};
-use values::Fixed;
 use values::fixing::fixing;
 
 // Both of two statements.
@@ -28,11 +28,10 @@ fn set_parts(table: &[u8], header: Header, aside: &mut [u32], n: usize)
     ensures { aside.new ≡ with_bits aside.old (inner_parts (statement_at (decode table.now) n)) }
 {
     let node = node_at(table, header, n);
-    let kind = node.kind;
-    match kind {
-        18 => set_both(aside, node.a, node.b),
-        19 => set_both(aside, node.b, node.c),
-        20 => mark(aside, node.b as usize),
+    match node.kind {
+        SEQUENCE => set_both(aside, node.a, node.b),
+        BRANCH => set_both(aside, node.b, node.c),
+        LOOP => mark(aside, node.b as usize),
         _ => {}
     }
 }
@@ -53,18 +52,18 @@ fn set_branch(table: &[u8], header: Header, aside: &mut [u32], n: usize)
     if node.kind != 19 {
         return;
     }
-    let Fixed::Value(value) = fixing(table, header, node.a as usize) else {
+    let Some(value) = fixing(table, header, node.a as usize) else {
         return;
     };
     mark(aside, not_taken(value, node.b, node.c) as usize);
 }
 
-// Most nodes are expressions, and no kind below 18 has a statement as a part.
+// Most nodes are expressions, and no kind below that of a sequence has a statement as a part.
 fn set_node(table: &[u8], header: Header, aside: &mut [u32], n: usize)
     requires { Passing well_formed table.now header × (n < nodes (decode table.now)) × (length aside.old ≡ plane_words) }
     ensures { aside.new ≡ aside_marks (decode table.now) n aside.old }
 {
-    if kind_at(table, header, n) < 18 {
+    if kind_at(table, header, n) < SEQUENCE {
         return;
     }
     if marked(aside, n) {
@@ -78,9 +77,7 @@ pub(crate) fn set_aside(table: &[u8], header: Header, aside: &mut [u32])
     requires { Passing well_formed table.now header × (aside.old ≡ replicate plane_words 0) }
     ensures { Aside (decode table.now) aside.new }
 {
-    let mut n = header.nodes;
-    while 0 < n {
-        n -= 1;
+    for n in (0..header.nodes).rev() {
         set_node(table, header, aside, n);
     }
 }

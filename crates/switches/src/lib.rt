@@ -73,12 +73,12 @@ pub fn answer(table: &[u8], planes: &mut [u32]) -> Verdict
 {
     let whole = accepted(table, &mut planes[0..ASIDE]);
     match whole {
-        Verdict::Accepted => whole,
-        Verdict::Refused(refusal) => {
-            if by_rules(refusal.number) {
-                return judge_again(table, header(table), planes, whole);
-            }
-            whole
-        }
+        Err(refusal) if by_rules(refusal.number) => judge_again(
+            table,
+            header(table),
+            planes,
+            whole,
+        ),
+        _ => whole,
     }
 }

@@ -1,9 +1,9 @@
 -- Laws of marks: marking sets exactly that bit and keeps the length; zeroed words mark nothing.
-use mathlib.Core.Bool.{true, false, cond}
+use mathlib.Core.Bool.{Bool, true, false, cond}
 use mathlib.Core.List.{List}
 use mathlib.Core.Logic.{⊎_elim}
-use mathlib.Core.Path.{◌≡◌, refl, sym, ◌∙◌, ap, ap₂}
-use Prim.Native.Nat.{ℕ, ◌+◌, ◌-◌, ◌*◌, ◌/◌, ◌%◌, ◌^◌, ◌≤◌, ◌<◌, max}
+use mathlib.Core.Path.{◌≡◌, sym, ◌∙◌, ap, ap₂}
+use Prim.Native.Nat.{ℕ, ◌+◌, ◌-◌, ◌*◌, ◌/◌, ◌%◌, ◌^◌, ◌≤◌, ◌<◌, min, max}
 use native.Mathlib.Decide.{dec_lt, ℕ_discrete}
 use native.Mathlib.Nat.{add-div_right, add-mul-div_left, zero-div, one-mul, add-mul, div-add-mod', mod-lt}
 use native.Mathlib.Omega.{arith}
@@ -13,9 +13,17 @@ use lib.ListN.{length, get_or, set, replicate, length-set, length-replicate, get
 use lib.Pow.{pow_pos, pow-add, shl_exact, shr-shr}
 use lib.Seq.{get_or-set_same, get_or-set_other, set_out}
 use borrow.Author.Tests.{eq-eqb, eqb-true, eqb-false}
+use Rattle.std.specs.List.{list_all}
+use Rattle.std.specs.Int.{trailing_ones}
+use Rattle.std.proofs.Common.{w32}
+use Rattle.std.proofs.lemmas.Nat.Bits.{bit_at_ones, bit_at-trailing_ones}
+use Rattle.std.proofs.Math.Nat.{min-eq_left, min-eq_right}
+use Rattle.std.proofs.lemmas.List.Elements.{All-get_or, All-from_get_or}
+use Rattle.std.proofs.lemmas.List.Sums.{AllPass-from_list_all, list_all-from_AllPass}
 use Rattle.rules.specs.Choice.{first_failing, all_below}
-use Rattle.rules.proofs.ChoiceLaws.{bool_cases, all-at}
+use Rattle.rules.proofs.ChoiceLaws.{Passed, bool_cases, first-none, first-at, all-at, all_true}
 use Rattle.table.specs.Marks.{has_bit, bit_at, with_bit}
+use Rattle.table.proofs.TestLaws.{never}
 
 -- a word's bit k is clear: what its places are after 2 ^ k is added
 
@@ -175,20 +183,58 @@ bit-zero count k =
     simp (word, zero-div)
 
 -- a word in which every bit is set
+pub bits_full : (m : List ℕ) (i k : ℕ) → get_or m i 0 ≡ 4294967295 → k / 32 ≡ i → bit_at m k ≡ true
+unfolding bit_at has_bit
+bits_full m i k full here = rw (here, full) (eq-eqb _ 1 (bit_at_ones 32 (k % 32) (omega arith)))
 
-all_full : all_below (has_bit 4294967295) 32 ≡ true
-unfolding all_below first_failing has_bit
-all_full = refl
-
-pub bits_full : (m : List ℕ) (n k : ℕ) → n % 32 ≡ 0 → get_or m (n / 32) 0 ≡ 4294967295 → n ≤ k → k < n + 32 → bit_at m k ≡ true
-unfolding bit_at
-bits_full m n k whole full from to =
-    let word : k / 32 ≡ n / 32 = omega arith in
-    rw (word, full) (all-at (has_bit 4294967295) 32 all_full (k % 32) (omega arith))
+-- a word in which not: all nodes before are marked, up to where its ones end
+pub first-ended : (m : List ℕ) (i count : ℕ) → get_or m i 0 + 1 < 2 ^ 32 → Passed (bit_at m) (32 * i)
+    → min count (32 * i + trailing_ones w32 (get_or m i 0)) ≡ first_failing (bit_at m) count
+unfolding bit_at has_bit
+first-ended m i count few before =
+    let word = get_or m i 0 in
+    let ones = trailing_ones w32 word in
+    let ends = bit_at-trailing_ones w32 word few in
+    let within : ones < 32 = ends.0 in
+    let set : Passed (bit_at m) (32 * i + ones) = λ k low.
+    elim (dec_lt k (32 * i)) [
+      | yes lower ↦ before k lower
+      | no here ↦
+          let at : k / 32 ≡ i = omega arith in
+          let bit : k % 32 < ones = omega arith in
+          rw at (eq-eqb _ 1 (ends.2 (k % 32) bit))
+    ] in
+    let at : (32 * i + ones) / 32 ≡ i = omega arith in
+    let bit : (32 * i + ones) % 32 ≡ ones = omega arith in
+    let clear : bit_at m (32 * i + ones) ≡ false = rw (at, bit, ends.1) in
+    elim (dec_lt (32 * i + ones) count) [
+      | yes below ↦
+          let least : min count (32 * i + ones) ≡ 32 * i + ones = min-eq_right (omega arith) in
+          least ∙ sym (first-at (bit_at m) count (32 * i + ones) below set clear)
+      | no above ↦
+          let least : min count (32 * i + ones) ≡ count = min-eq_left (omega arith) in
+          least ∙ sym (first-none (bit_at m) count (λ k low. set k (omega arith)))
+    ]
 
 -- words cleared, of a known number
 pub cleared : {n : ℕ} (after m : List ℕ) → after ≡ replicate (length m) 0 → length m ≡ n → after ≡ replicate n 0
 cleared after m e size = e ∙ ap (λ (k : ℕ). replicate k 0) size
+
+-- a test that all of a list passes, told by place
+pub listed-below : (test : ℕ → Bool) (xs : List ℕ) → list_all test xs ≡ all_below (λ i. test (get_or xs i 0)) (length xs)
+listed-below test xs =
+    let at : ℕ → Bool = λ i. test (get_or xs i 0) in
+    let P : ℕ → Type 0 = λ x. test x ≡ true in
+    ⊎_elim
+    (λ (e : list_all test xs ≡ true).
+    e ∙ sym (all_true at (length xs) (λ k inside. All-get_or P xs k 0 inside (AllPass-from_list_all test xs e))))
+    (λ (e : list_all test xs ≡ false).
+    ⊎_elim
+    (λ (b : all_below at (length xs) ≡ true).
+    never (sym (list_all-from_AllPass test xs (All-from_get_or P xs 0 (all-at at (length xs) b))) ∙ e))
+    (λ (b : all_below at (length xs) ≡ false). e ∙ sym b)
+    (bool_cases (all_below at (length xs))))
+    (bool_cases (list_all test xs))
 
 -- marks whose words are all 0
 

@@ -1,24 +1,24 @@
 -- What questions 6 and 9 say of bodies and of the parts of a node: each lies below what names it.
-use mathlib.Core.Bool.{true, false}
+use mathlib.Core.Bool.{true}
 use mathlib.Core.List.{List}
-use mathlib.Core.Logic.{⊎_elim}
 use mathlib.Core.Path.{◌≡◌, sym, ◌∙◌}
 use Prim.Native.Nat.{ℕ, ◌<◌, ◌^◌, ◌%◌}
 use lib.Dec.{eqb}
-use borrow.Author.Tests.{eqb-true, ltb-true}
+use borrow.Author.Tests.{ltb-true}
 use Rattle.rules.specs.declared.Node.{Node}
-use Rattle.rules.specs.declared.Verdict.TheVariants.{Accepted}
+use Rattle.rules.specs.Answers.{Accepted}
 use Rattle.rules.specs.Table.{Program, decode, procedures, nodes, body, node_at, procedure_word}
 use Rattle.rules.specs.WellFormed.{node_fits, procedure_fits, question6, question9}
 use Rattle.rules.proofs.AnswerLaws.{both_right, each-passed}
-use Rattle.rules.proofs.ChoiceLaws.{bool_cases}
 use Rattle.rules.proofs.PartLaws.{expression_part-below, statement_part-below}
 use Rattle.table.specs.declared.Header.{Header}
-use Rattle.table.specs.Roles.{role_of, is_part, field_fits}
+use Rattle.table.specs.declared.fields.Role.{Role}
+use Rattle.table.specs.declared.fields.Role.TheVariants.{Unnamed, Variable, Expression, Statement, Procedure, Half, Area}
+use Rattle.table.specs.Roles.{roles_of, is_part, field_fits}
 use Rattle.table.specs.Sized.{Sized}
 use Rattle.table.specs.Uses.{Fitting}
 use Rattle.table.proofs.RoleLaws.{fits_law}
-use Rattle.table.proofs.TestLaws.{all_three}
+use Rattle.table.proofs.TestLaws.{never, all_three}
 
 pub body-low : (table : List ℕ) (p : ℕ) → procedure_fits table p ≡ true → body (decode table) p < nodes (decode table)
 unfolding procedure_fits
@@ -36,23 +36,25 @@ fitting table header s passed6 passed9 =
     }
 
 -- a part that fits lies below its node
-pub part-below : (program : Program) (n role value : ℕ) → field_fits program n role value ≡ true
+pub part-below : (program : Program) (n : ℕ) (role : Role) (value : ℕ) → field_fits program n role value ≡ true
     → is_part role ≡ true
     → value < n
 unfolding field_fits
-part-below program n role value fits part =
-    ⊎_elim
-    (λ (e : eqb role 2 ≡ true). expression_part-below program n value (rw (eqb-true role 2 e) at fits))
-    (λ (e : eqb role 2 ≡ false). statement_part-below program n value (rw (eqb-true role 3 (simp e at part)) at fits))
-    (bool_cases (eqb role 2))
+part-below program n Unnamed value fits part = never (sym part)
+part-below program n Variable value fits part = never (sym part)
+part-below program n Expression value fits part = expression_part-below program n value fits
+part-below program n Statement value fits part = statement_part-below program n value fits
+part-below program n Procedure value fits part = never (sym part)
+part-below program n Half value fits part = never (sym part)
+part-below program n Area value fits part = never (sym part)
 
 -- the fields of a node that fits
 module _ (program : Program) (n : ℕ) (fits : node_fits program n ≡ true) where
   abbrev m : Node
   m = node_at program n
 
-  abbrev Fits : ℕ → ℕ → Type 0
-  Fits place value = field_fits program n (role_of m.kind place) value ≡ true
+  abbrev Fits : Role → ℕ → Type 0
+  Fits role value = field_fits program n role value ≡ true
 
-  pub fields_fit : Fits 100 m.a × Fits 10 m.b × Fits 1 m.c
+  pub fields_fit : Fits (roles_of m.kind).a m.a × Fits (roles_of m.kind).b m.b × Fits (roles_of m.kind).c m.c
   fields_fit = all_three _ _ _ (sym (fits_law program n) ∙ fits)

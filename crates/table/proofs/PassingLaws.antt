@@ -4,10 +4,9 @@ use mathlib.Core.Path.{◌≡◌}
 use Prim.Native.Nat.{ℕ, ◌+◌, ◌*◌, ◌<◌}
 use native.Mathlib.Omega.{arith}
 use lib.ListN.{length}
-use Rattle.rules.specs.declared.Verdict.{Verdict}
+use Rattle.rules.specs.Answers.{Verdict, ◌then◌}
 use Rattle.rules.specs.Table.{decode, procedures, nodes}
 use Rattle.rules.specs.WellFormed.{question6, question26, built_by, well_built, well_formed}
-use Rattle.rules.specs.Answers.{◌then◌}
 use Rattle.rules.proofs.AnswerLaws.{then_first, then_assoc}
 use Rattle.rules.proofs.Formed.{Formed, built, built-exact, formed}
 use Rattle.table.specs.declared.Header.{Header}

@@ -3,9 +3,8 @@ use mathlib.Core.Bool.{Bool}
 use mathlib.Core.Path.{◌≡◌, refl}
 use Prim.Native.Nat.{ℕ, ◌≤◌, ◌<◌}
 use borrow.Author.Tests.{lt-ltb, le-ltb}
-use Rattle.rules.specs.declared.Verdict.{Verdict}
-use Rattle.rules.specs.declared.Verdict.TheVariants.{Accepted, Refused}
-use Rattle.rules.specs.Answers.{refused, ◌then◌, ask_each}
+use Rattle.std.specs.Prelude.{Ok, Err}
+use Rattle.rules.specs.Answers.{Verdict, Accepted, refused, ◌then◌, ask_each}
 use Rattle.rules.specs.Choice.{first_failing}
 
 module _ (question count : ℕ) (test : ℕ → Bool) (place : ℕ) (found : place ≡ first_failing test count) where
@@ -17,5 +16,5 @@ module _ (question count : ℕ) (test : ℕ → Bool) (place : ℕ) (found : pla
 
 -- an answer with nothing asked after it
 pub then_none : (v : Verdict) → (v then Accepted) ≡ v
-then_none Accepted = refl
-then_none (Refused r) = refl
+then_none (Ok _) = refl
+then_none (Err r) = refl

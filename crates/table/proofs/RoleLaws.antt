@@ -1,19 +1,21 @@
 -- The roles of a node's fields say the same as the definitions of questions 8, 9 and 11 by kind: one law each, at every kind.
-use mathlib.Core.Bool.{false, ◌&&◌, and-true, and_assoc}
+use mathlib.Core.Bool.{true, false, ◌&&◌, and-true, and_assoc}
 use mathlib.Core.List.{◌++◌}
 use mathlib.Core.Path.{◌≡◌, refl}
 use Prim.Native.Nat.{ℕ, zero, suc, ◌-◌, ◌≤◌, ◌<◌}
-use native.Mathlib.Decide.{dec_lt}
-use native.Mathlib.Nat.{zero-div}
+use native.Mathlib.Decide.{dec_lt, ℕ_discrete}
 use native.Mathlib.Omega.{arith}
 use lib.Dec.{eqb}
 use borrow.Author.Tests.{ne_eqb}
-use lib.ListN.{get_or, get_or-eq_default}
+use lib.ListN.{get_or-eq_default}
 use Rattle.rules.specs.declared.Node.{Node}
 use Rattle.rules.specs.Table.{Program, constant, nothing, node_at, expression_of, statement_of, expression_at, statement_at}
 use Rattle.rules.specs.WellFormed.{named_fields, unnamed_zero, expression_fits, statement_fits, node_fits}
 use Rattle.rules.specs.WellFormed.{expression_parts, statement_parts, parts_at}
-use Rattle.table.specs.Roles.{roles, role_of, field_zero, field_fits, field_parts}
+use Rattle.table.specs.declared.fields.Role.{Role}
+use Rattle.table.specs.declared.fields.Role.TheVariants.{Unnamed, Variable, Expression, Statement, Procedure, Half, Area}
+use Rattle.table.specs.declared.fields.Roles.{Roles}
+use Rattle.table.specs.Roles.{three, no_roles, roles, roles_of, field_zero, field_fits, field_parts}
 
 -- the kinds that the roles list: 0 to 26
 abbrev pub listed : ℕ
@@ -54,20 +56,52 @@ module _ (k a b c : ℕ) (h : listed ≤ k) where
   statement_unknown =
       let e : k - 16 ≡ suc (suc (suc (suc (suc (suc (suc (suc (suc (suc (suc (k - listed))))))))))) = omega arith in rw e
 
-role_unknown : (k place : ℕ) → listed ≤ k → role_of k place ≡ 0
-unfolding role_of roles
-role_unknown k place h =
-    let none : get_or roles k 0 ≡ 0 = get_or-eq_default roles 0 {n = k} h in
-    simp (none, zero-div)
+roles_unknown : (k : ℕ) → listed ≤ k → roles_of k ≡ no_roles
+unfolding roles_of roles
+roles_unknown k h = get_or-eq_default roles no_roles {n = k} h
+
+-- the roles of kind k, looked for kind by kind
+or_else : (k j : ℕ) {r : Roles} → roles_of j ≡ r → ((k ≡ j → ⊥) → roles_of k ≡ r) → roles_of k ≡ r
+or_else k j here other = elim (ℕ_discrete k j) [ yes e ↦ rw e here | no n ↦ other n ]
+
+pub roles-operation : (k : ℕ) → 6 ≤ k → k ≤ 12 → roles_of k ≡ three Expression Expression Unnamed
+unfolding roles_of roles
+roles-operation k low high =
+    or_else k 6 refl (λ a. or_else k 7 refl (λ b. or_else k 8 refl (λ c.
+    or_else k 9 refl (λ d. or_else k 10 refl (λ e. or_else k 11 refl (λ f.
+    let last : k ≡ 12 = omega (arith, a, b, c, d, e, f) in rw last refl))))))
+
+pub roles-few : (k : ℕ) → k < 4 → (k ≡ 0 → ⊥) → (k ≡ 1 → ⊥) → roles_of k ≡ no_roles
+unfolding roles_of roles
+roles-few k few a b = or_else k 2 refl (λ c. let last : k ≡ 3 = omega (arith, a, b, c) in rw last refl)
+
+pub roles-none : (k : ℕ) → 13 ≤ k → (k ≡ 17 → ⊥) → (k ≡ 18 → ⊥) → (k ≡ 19 → ⊥) → (k ≡ 20 → ⊥) → (k ≡ 21 → ⊥)
+    → (k ≡ 22 → ⊥) → (k ≡ 24 → ⊥) → (k ≡ 25 → ⊥) → roles_of k ≡ no_roles
+unfolding roles_of roles
+roles-none k low a b c d e f g h =
+    or_else k 13 refl (λ i. or_else k 14 refl (λ j. or_else k 15 refl (λ l.
+    or_else k 16 refl (λ m. or_else k 23 refl (λ n. or_else k 26 refl (λ o.
+    roles_unknown k (omega (arith, a, b, c, d, e, f, g, h, i, j, l, m, n, o))))))))
+
+-- a field that is named passes question 8
+pub zero-named : (role : Role) (value : ℕ) → (role ≡ Unnamed → ⊥) → field_zero role value ≡ true
+unfolding field_zero
+zero-named Unnamed value named = absurd (named refl)
+zero-named Variable value named = refl
+zero-named Expression value named = refl
+zero-named Statement value named = refl
+zero-named Procedure value named = refl
+zero-named Half value named = refl
+zero-named Area value named = refl
 
 -- question 8
 abbrev ZeroAt : ℕ → Type 0
 ZeroAt k =
     (a b c : ℕ)
-    → unnamed_zero (node k a b c) ≡ (field_zero (role_of k 100) a && (field_zero (role_of k 10) b && field_zero (role_of k 1) c))
+    → unnamed_zero (node k a b c) ≡ (field_zero (roles_of k).a a && (field_zero (roles_of k).b b && field_zero (roles_of k).c c))
 
 zero-known : Each ZeroAt listed
-unfolding unnamed_zero named_fields expression_of statement_of role_of roles field_zero
+unfolding unnamed_zero named_fields expression_of statement_of roles_of roles field_zero
 zero-known =
     none also (λ a b c. simp and-true) also (λ a b c. refl) also (λ a b c. simp and_assoc)
     also (λ a b c. simp and_assoc) also (λ a b c. refl) also (λ a b c. refl) also (λ a b c. refl)
@@ -85,15 +119,13 @@ zero_unknown k h a b c =
       other,
       expression_unknown k a b c h,
       statement_unknown k a b c h,
-      role_unknown k 100 h,
-      role_unknown k 10 h,
-      role_unknown k 1 h,
+      roles_unknown k h,
       and_assoc,
     )
 
 pub zero_law : (m : Node) → unnamed_zero m
-    ≡ (field_zero (role_of m.kind 100) m.a
-    && (field_zero (role_of m.kind 10) m.b && field_zero (role_of m.kind 1) m.c))
+    ≡ (field_zero (roles_of m.kind).a m.a
+    && (field_zero (roles_of m.kind).b m.b && field_zero (roles_of m.kind).c m.c))
 zero_law m = each-kind ZeroAt zero-known zero_unknown m.kind m.a m.b m.c
 
 -- question 9
@@ -102,10 +134,10 @@ module _ (program : Program) (n : ℕ) where
   FitsAt k =
       (a b c : ℕ)
       → (expression_fits program n (expression_of (node k a b c)) && statement_fits program n (statement_of (node k a b c)))
-      ≡ (field_fits program n (role_of k 100) a && (field_fits program n (role_of k 10) b && field_fits program n (role_of k 1) c))
+      ≡ (field_fits program n (roles_of k).a a && (field_fits program n (roles_of k).b b && field_fits program n (roles_of k).c c))
 
   fits-known : Each FitsAt listed
-  unfolding expression_of statement_of expression_fits statement_fits role_of roles field_fits
+  unfolding expression_of statement_of expression_fits statement_fits roles_of roles field_fits
   fits-known =
       none also (λ a b c. refl) also (λ a b c. simp and-true) also (λ a b c. refl) also (λ a b c. refl)
       also (λ a b c. simp and-true) also (λ a b c. simp and-true)
@@ -122,12 +154,12 @@ module _ (program : Program) (n : ℕ) where
   unfolding expression_fits statement_fits field_fits
   fits_unknown k h a b c =
       simp
-      (expression_unknown k a b c h, statement_unknown k a b c h, role_unknown k 100 h, role_unknown k 10 h, role_unknown k 1 h)
+      (expression_unknown k a b c h, statement_unknown k a b c h, roles_unknown k h)
 
   pub fits_law : node_fits program n
-      ≡ (field_fits program n (role_of (node_at program n).kind 100) (node_at program n).a
-      && (field_fits program n (role_of (node_at program n).kind 10) (node_at program n).b
-      && field_fits program n (role_of (node_at program n).kind 1) (node_at program n).c))
+      ≡ (field_fits program n (roles_of (node_at program n).kind).a (node_at program n).a
+      && (field_fits program n (roles_of (node_at program n).kind).b (node_at program n).b
+      && field_fits program n (roles_of (node_at program n).kind).c (node_at program n).c))
   unfolding node_fits expression_at statement_at
   fits_law =
       let m = node_at program n in
@@ -138,10 +170,10 @@ abbrev PartsAt : ℕ → Type 0
 PartsAt k =
     (a b c : ℕ)
     → (expression_parts (expression_of (node k a b c)) ++ statement_parts (statement_of (node k a b c)))
-    ≡ field_parts (role_of k 100) a ++ (field_parts (role_of k 10) b ++ field_parts (role_of k 1) c)
+    ≡ field_parts (roles_of k).a a ++ (field_parts (roles_of k).b b ++ field_parts (roles_of k).c c)
 
 parts-known : Each PartsAt listed
-unfolding expression_of statement_of expression_parts statement_parts role_of roles field_parts
+unfolding expression_of statement_of expression_parts statement_parts roles_of roles field_parts
 parts-known =
     none also (λ a b c. refl) also (λ a b c. refl) also (λ a b c. refl) also (λ a b c. refl) also (λ a b c. refl)
     also (λ a b c. refl) also (λ a b c. refl) also (λ a b c. refl) also (λ a b c. refl) also (λ a b c. refl)
@@ -154,12 +186,12 @@ parts_unknown : (k : ℕ) → listed ≤ k → PartsAt k
 unfolding expression_parts statement_parts field_parts
 parts_unknown k h a b c =
     simp
-    (expression_unknown k a b c h, statement_unknown k a b c h, role_unknown k 100 h, role_unknown k 10 h, role_unknown k 1 h)
+    (expression_unknown k a b c h, statement_unknown k a b c h, roles_unknown k h)
 
 pub parts_law : (program : Program) (n : ℕ) → parts_at program n
-    ≡ field_parts (role_of (node_at program n).kind 100) (node_at program n).a
-    ++ (field_parts (role_of (node_at program n).kind 10) (node_at program n).b
-    ++ field_parts (role_of (node_at program n).kind 1) (node_at program n).c)
+    ≡ field_parts (roles_of (node_at program n).kind).a (node_at program n).a
+    ++ (field_parts (roles_of (node_at program n).kind).b (node_at program n).b
+    ++ field_parts (roles_of (node_at program n).kind).c (node_at program n).c)
 unfolding parts_at expression_at statement_at
 parts_law program n =
     let m = node_at program n in

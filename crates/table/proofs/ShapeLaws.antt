@@ -7,8 +7,7 @@ use native.Mathlib.Omega.{arith}
 use lib.Dec.{leb, eqb}
 use lib.ListN.{length}
 use borrow.Author.Tests.{leb-true, eqb-true, eq-eqb, ne_eqb}
-use Rattle.rules.specs.declared.Verdict.TheVariants.{Accepted}
-use Rattle.rules.specs.Answers.{refused, ask}
+use Rattle.rules.specs.Answers.{Accepted, refused, ask}
 use Rattle.rules.specs.Table.{decode, word_at, edition, variables, procedures, nodes, node_at, unpacked}
 use Rattle.rules.specs.WellFormed.{header_fits, is_statement, question2, question3, question4}
 use Rattle.rules.proofs.Formed.{word-past}

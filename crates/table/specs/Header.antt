@@ -1,7 +1,6 @@
 -- The counts of word 0 as the code holds them, and a table with its counts that passed some questions.
 use Rattle.std.specs.Prelude.{List, ◌≡◌, ℕ}
-use Rattle.rules.specs.declared.Verdict.{Verdict}
-use Rattle.rules.specs.declared.Verdict.TheVariants.{Accepted}
+use Rattle.rules.specs.Answers.{Verdict, Accepted}
 use Rattle.rules.specs.Table.{decode, variables, procedures, nodes}
 use Rattle.table.specs.declared.Header.{Header}
 

@@ -1,5 +1,5 @@
 -- Marks: a set of nodes as bits in lent words. Node n is bit n % 32 of word n / 32.
-use Rattle.std.specs.Prelude.{Bool, true, false, cond, List, [], ◌∷◌, ◌≡◌, ℕ, ◌+◌, ◌/◌, ◌%◌, ◌^◌, ◌≤◌, ◌<◌, eqb, get_or, set}
+use Rattle.std.specs.Prelude.{Bool, cond, List, [], ◌∷◌, ℕ, ◌+◌, ◌/◌, ◌%◌, ◌^◌, eqb, get_or, set}
 
 -- whether a word has bit k
 unfoldable pub has_bit : ℕ → ℕ → Bool
@@ -17,9 +17,3 @@ with_bit marks n = cond (bit_at marks n) marks (set marks (n / 32) (get_or marks
 unfoldable pub with_bits : List ℕ → List ℕ → List ℕ
 with_bits marks [] = marks
 with_bits marks (n ∷ nodes) = with_bits (with_bit marks n) nodes
-
--- the `more` nodes from n on are marked, and node n is not where there are none
-pub record Passed (marks : List ℕ) (n more : ℕ) : Type 0 where
-  pub few : more ≤ 32
-  pub set : (k : ℕ) → n ≤ k → k < n + more → bit_at marks k ≡ true
-  pub clear : more ≡ 0 → bit_at marks n ≡ false

@@ -1,41 +1,83 @@
 -- What each field of a node stands for, by kind: one table for questions 8, 9 and 11.
-use Rattle.std.specs.Prelude.{Bool, true, cond, not, ◌||◌, List, [], ◌∷◌, ℕ, ◌/◌, ◌%◌, ltb, eqb, get_or}
+use Rattle.std.specs.Prelude.{Bool, true, false, cond, List, [], ◌∷◌, ℕ, ltb, eqb, get_or}
 use Rattle.rules.specs.Table.{Program, variables, procedures, gathered_areas}
 use Rattle.rules.specs.WellFormed.{expression_part, statement_part}
+use Rattle.table.specs.declared.fields.Role.{Role}
+use Rattle.table.specs.declared.fields.Role.TheVariants.{Unnamed, Variable, Expression, Statement, Procedure, Half, Area}
+use Rattle.table.specs.declared.fields.Roles.{Roles}
 
--- A role is 0 unnamed, 1 a variable, 2 an expression part, 3 a statement part, 4 a procedure, 5 half of a constant, 6 a gathered
--- area. The digits of a number are the roles of the fields A, B, C of a kind, from 0 on.
-unfoldable pub roles : List ℕ
+abbrev pub three : Role → Role → Role → Roles
+three a b c = record { a = a; b = b; c = c }
+
+abbrev pub no_roles : Roles
+no_roles = three Unnamed Unnamed Unnamed
+
+-- the roles of the fields of the kinds, from 0 on
+unfoldable pub roles : List Roles
 roles =
-    55 ∷ 100 ∷ 0 ∷ 0 ∷ 200 ∷ 260 ∷ 220 ∷ 220 ∷ 220 ∷ 220 ∷ 220 ∷ 220 ∷ 220
-    ∷ 0 ∷ 0 ∷ 0
-    ∷ 0 ∷ 120 ∷ 330 ∷ 233 ∷ 230 ∷ 400 ∷ 220 ∷ 0 ∷ 122 ∷ 260 ∷ 0 ∷ []
+    three Unnamed Half Half
+    ∷ three Variable Unnamed Unnamed
+    ∷ no_roles
+    ∷ no_roles
+    ∷ three Expression Unnamed Unnamed
+    ∷ three Expression Area Unnamed
+    ∷ three Expression Expression Unnamed
+    ∷ three Expression Expression Unnamed
+    ∷ three Expression Expression Unnamed
+    ∷ three Expression Expression Unnamed
+    ∷ three Expression Expression Unnamed
+    ∷ three Expression Expression Unnamed
+    ∷ three Expression Expression Unnamed
+    ∷ no_roles
+    ∷ no_roles
+    ∷ no_roles
+    ∷ no_roles
+    ∷ three Variable Expression Unnamed
+    ∷ three Statement Statement Unnamed
+    ∷ three Expression Statement Statement
+    ∷ three Expression Statement Unnamed
+    ∷ three Procedure Unnamed Unnamed
+    ∷ three Expression Expression Unnamed
+    ∷ no_roles
+    ∷ three Variable Expression Expression
+    ∷ three Expression Area Unnamed
+    ∷ no_roles
+    ∷ []
 
--- the role of a field of a kind, by the value of its digit's place: 100 for A, 10 for B, 1 for C. The fields of an unknown kind
--- are unnamed.
-abbrev pub digit : ℕ → ℕ → ℕ
-digit roles place = roles / place % 10
-
-unfoldable pub role_of : ℕ → ℕ → ℕ
-role_of kind place = digit (get_or roles kind 0) place
+-- the fields of an unknown kind are unnamed
+unfoldable pub roles_of : ℕ → Roles
+roles_of kind = get_or roles kind no_roles
 
 -- whether a role is that of a part
-abbrev pub is_part : ℕ → Bool
-is_part role = eqb role 2 || eqb role 3
+abbrev pub is_part : Role → Bool
+is_part Unnamed = false
+is_part Variable = false
+is_part Expression = true
+is_part Statement = true
+is_part Procedure = false
+is_part Half = false
+is_part Area = false
 
 -- question 8 of one field
-unfoldable pub field_zero : ℕ → ℕ → Bool
-field_zero role value = not (eqb role 0) || eqb value 0
+unfoldable pub field_zero : Role → ℕ → Bool
+field_zero Unnamed value = eqb value 0
+field_zero Variable value = true
+field_zero Expression value = true
+field_zero Statement value = true
+field_zero Procedure value = true
+field_zero Half value = true
+field_zero Area value = true
 
 -- question 9 of one field of node n
-unfoldable pub field_fits : Program → ℕ → ℕ → ℕ → Bool
-field_fits program n role value =
-    cond (eqb role 1) (ltb value (variables program))
-    (cond (eqb role 2) (expression_part program n value)
-    (cond (eqb role 3) (statement_part program n value)
-    (cond (eqb role 4) (ltb value (procedures program))
-    (cond (eqb role 6) (ltb value gathered_areas) true))))
+unfoldable pub field_fits : Program → ℕ → Role → ℕ → Bool
+field_fits program n Unnamed value = true
+field_fits program n Variable value = ltb value (variables program)
+field_fits program n Expression value = expression_part program n value
+field_fits program n Statement value = statement_part program n value
+field_fits program n Procedure value = ltb value (procedures program)
+field_fits program n Half value = true
+field_fits program n Area value = ltb value gathered_areas
 
 -- the nodes that one field names
-unfoldable pub field_parts : ℕ → ℕ → List ℕ
+unfoldable pub field_parts : Role → ℕ → List ℕ
 field_parts role value = cond (is_part role) (value ∷ []) []

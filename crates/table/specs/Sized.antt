@@ -1,7 +1,6 @@
 -- Questions 2 to 5, and what they establish: the counts of word 0 and the length that follows from them.
 use Rattle.std.specs.Prelude.{List, ◌≡◌, ℕ, ◌+◌, ◌*◌, ◌/◌, ◌%◌, ◌≤◌, Bool, ◌&&◌, leb, eqb, length}
-use Rattle.rules.specs.declared.Verdict.{Verdict}
-use Rattle.rules.specs.Answers.{◌then◌}
+use Rattle.rules.specs.Answers.{Verdict, ◌then◌}
 use Rattle.rules.specs.WellFormed.{question2, question3, question4, question5}
 use Rattle.rules.specs.Table.{decode, variables, procedures, nodes}
 use Rattle.table.specs.declared.Header.{Header}

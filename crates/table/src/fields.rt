@@ -1,102 +1,70 @@
 // Questions 6 to 10 of one procedure or node.
-ghost use Rattle.std.specs.Prelude.{◌≡◌, ◌<◌, get_or};
+ghost use Rattle.std.specs.Prelude.{◌≡◌, ◌<◌};
 ghost use Rattle.rules.specs.Table.{decode, body};
 ghost use Rattle.rules.specs.WellFormed.{procedure_fits, is_expression, is_statement, kind_known, unnamed_zero};
 ghost use Rattle.rules.specs.WellFormed.{expression_part, statement_part, node_fits};
-ghost use Rattle.table.specs.Roles.{roles, digit, role_of, is_part, field_zero, field_fits};
+ghost use Rattle.table.specs.Roles.{roles_of, is_part, field_zero, field_fits};
 ghost use Rattle.table.specs.Sized.{Sized};
 
 use crate::Header;
 use crate::shape::between;
 use crate::words::{body, node_at, word};
 use rules::Node;
-use rules::kinds::{FIRST_STATEMENT, LAST_EXPRESSION, LAST_STATEMENT};
+use rules::kinds::{
+    ASSIGN, BOTH, BRANCH, BROADCAST, CALL, CONSTANT, DIFFERENCE, DOOR, EQUAL, EXCHANGE,
+    FIRST_STATEMENT, LAST_EXPRESSION, LAST_STATEMENT, LATCH, LESS, LOOP, PRODUCT, QUOTIENT,
+    SEQUENCE, SLOT, SUM, VARIABLE,
+};
 use rules::layout::GATHERED_AREAS;
 
-// What a field of a node stands for.
-pub const UNNAMED: u16 = 0;
-
-pub const VARIABLE: u16 = 1;
-
-pub const EXPRESSION: u16 = 2;
-
-pub const STATEMENT: u16 = 3;
-
-pub const PROCEDURE: u16 = 4;
-
-pub const AREA: u16 = 6;
-
-// The roles of the fields A, B, C of a kind, a digit each. A 5 is half of a constant, which may be any number.
-const ROLES: [u16; 27] = [
-    55, // 0 constant B × 512 + C
-    100, // 1 variable A
-    0, // 2 own number
-    0, // 3 number of processes
-    200, // 4 door A
-    260, // 5 slot A of area B
-    220, // 6 sum
-    220, // 7 difference
-    220, // 8 product
-    220, // 9 quotient
-    220, // 10 less
-    220, // 11 equal
-    220, // 12 both
-    0, // 13 unknown
-    0, // 14 unknown
-    0, // 15 unknown
-    0, // 16 nothing
-    120, // 17 variable A takes B
-    330, // 18 A, then B
-    233, // 19 if A then B, else C
-    230, // 20 while A, B
-    400, // 21 call A
-    220, // 22 latch A takes B
-    0, // 23 barrier
-    122, // 24 broadcast to variable A of B from C
-    260, // 25 exchange of A into area B
-    0, // 26 leave
-];
-
-// The places of the digits.
-pub const A: u16 = 100;
-
-pub const B: u16 = 10;
-
-pub const C: u16 = 1;
-
-// The digits of a kind; an unknown kind names nothing.
-fn roles(kind: u32) -> u16
-    ensures { result ≡ get_or roles kind 0 }
-{
-    if kind <= LAST_STATEMENT {
-        ROLES[kind as usize]
-    } else {
-        0
-    }
+// What a field of a node stands for. Half of a constant may be any number.
+#[derive(Clone, Copy)]
+pub enum Role {
+    Unnamed,
+    Variable,
+    Expression,
+    Statement,
+    Procedure,
+    Half,
+    Area,
 }
 
-pub fn digit(roles: u16, place: u16) -> u16
-    requires { 0 < place }
-    ensures { result ≡ digit roles place }
-{
-    roles / place % 10
+// The roles of the fields A, B, C of a kind.
+#[derive(Clone, Copy)]
+pub struct Roles {
+    pub a: Role,
+    pub b: Role,
+    pub c: Role,
 }
 
-pub fn role(kind: u32, place: u16) -> u16
-    requires { 0 < place }
-    ensures { result ≡ role_of kind place }
+// The fields of an unknown kind stand for nothing.
+pub fn roles_of(kind: u32) -> Roles
+    ensures { result ≡ roles_of kind }
 {
-    digit(roles(kind), place)
+    let (a, b, c) = match kind {
+        CONSTANT => (Role::Unnamed, Role::Half, Role::Half),
+        VARIABLE => (Role::Variable, Role::Unnamed, Role::Unnamed),
+        DOOR => (Role::Expression, Role::Unnamed, Role::Unnamed),
+        SLOT | EXCHANGE => (Role::Expression, Role::Area, Role::Unnamed),
+        SUM | DIFFERENCE | PRODUCT | QUOTIENT | LESS | EQUAL | BOTH | LATCH => {
+            (Role::Expression, Role::Expression, Role::Unnamed)
+        }
+        ASSIGN => (Role::Variable, Role::Expression, Role::Unnamed),
+        SEQUENCE => (Role::Statement, Role::Statement, Role::Unnamed),
+        BRANCH => (Role::Expression, Role::Statement, Role::Statement),
+        LOOP => (Role::Expression, Role::Statement, Role::Unnamed),
+        CALL => (Role::Procedure, Role::Unnamed, Role::Unnamed),
+        BROADCAST => (Role::Variable, Role::Expression, Role::Expression),
+        _ => (Role::Unnamed, Role::Unnamed, Role::Unnamed),
+    };
+    Roles { a, b, c }
 }
 
 // Whether a role is that of a part.
-pub fn is_part(role: u16) -> bool
+pub fn is_part(role: Role) -> bool
     ensures { result ≡ is_part role }
 {
-    if role == EXPRESSION {
-        return true;
-    }
-    role == STATEMENT
+    matches!(role, Role::Expression | Role::Statement)
 }
 
 // Question 6.
@@ -150,26 +118,27 @@ pub fn kind_known(table: &[u8], header: Header, n: usize) -> bool
     is_statement(table, header, n)
 }
 
-pub fn field_zero(role: u16, value: u32) -> bool
+pub fn field_zero(role: Role, value: u32) -> bool
     ensures { result ≡ field_zero role value }
 {
-    if role != UNNAMED {
-        return true;
+    match role {
+        Role::Unnamed => value == 0,
+        _ => true,
     }
-    value == 0
 }
 
 // Question 8.
 pub fn unnamed_zero(node: Node) -> bool
     ensures { result ≡ unnamed_zero node }
 {
-    if !field_zero(role(node.kind, A), node.a) {
+    let roles = roles_of(node.kind);
+    if !field_zero(roles.a, node.a) {
         return false;
     }
-    if !field_zero(role(node.kind, B), node.b) {
+    if !field_zero(roles.b, node.b) {
         return false;
     }
-    field_zero(role(node.kind, C), node.c)
+    field_zero(roles.c, node.c)
 }
 
 fn expression_part(table: &[u8], header: Header, n: usize, a: usize) -> bool
@@ -192,26 +161,18 @@ fn statement_part(table: &[u8], header: Header, n: usize, a: usize) -> bool
     is_statement(table, header, a)
 }
 
-pub fn field_fits(table: &[u8], header: Header, n: usize, role: u16, value: usize) -> bool
+pub fn field_fits(table: &[u8], header: Header, n: usize, role: Role, value: usize) -> bool
     requires { Sized table.now header × (n < header.nodes) }
     ensures { result ≡ field_fits (decode table.now) n role value }
 {
-    if role == VARIABLE {
-        return value < header.variables;
+    match role {
+        Role::Variable => value < header.variables,
+        Role::Expression => expression_part(table, header, n, value),
+        Role::Statement => statement_part(table, header, n, value),
+        Role::Procedure => value < header.procedures,
+        Role::Area => value < GATHERED_AREAS,
+        Role::Unnamed | Role::Half => true,
     }
-    if role == EXPRESSION {
-        return expression_part(table, header, n, value);
-    }
-    if role == STATEMENT {
-        return statement_part(table, header, n, value);
-    }
-    if role == PROCEDURE {
-        return value < header.procedures;
-    }
-    if role == AREA {
-        return value < GATHERED_AREAS;
-    }
-    true
 }
 
 // Question 9.
@@ -220,13 +181,14 @@ pub fn node_fits(table: &[u8], header: Header, n: usize) -> bool
     ensures { result ≡ node_fits (decode table.now) n }
 {
     let node = node_at(table, header, n);
-    if !field_fits(table, header, n, role(node.kind, A), node.a as usize) {
+    let roles = roles_of(node.kind);
+    if !field_fits(table, header, n, roles.a, node.a as usize) {
         return false;
     }
-    if !field_fits(table, header, n, role(node.kind, B), node.b as usize) {
+    if !field_fits(table, header, n, roles.b, node.b as usize) {
         return false;
     }
-    field_fits(table, header, n, role(node.kind, C), node.c as usize)
+    field_fits(table, header, n, roles.c, node.c as usize)
 }
 
 // Question 10.

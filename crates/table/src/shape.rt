@@ -12,7 +12,7 @@ use rules::{Refusal, Verdict};
 pub fn refused(number: u32, place: u32) -> Verdict
     ensures { result ≡ refused number place }
 {
-    Verdict::Refused(Refusal { number, place })
+    Err(Refusal { number, place })
 }
 
 pub fn between(low: usize, x: usize, high: usize) -> bool
@@ -25,29 +25,18 @@ pub fn between(low: usize, x: usize, high: usize) -> bool
 fn length_fits(bytes: usize) -> bool
     ensures { result ≡ (eqb (bytes % 4) 0 && leb 16 bytes && leb bytes most_table_bytes) }
 {
-    if bytes % 4 != 0 {
-        return false;
-    }
-    between(16, bytes, MOST_TABLE_BYTES)
+    bytes % 4 == 0 && between(16, bytes, MOST_TABLE_BYTES)
 }
 
 // Question 3, of word 0 and the counts that it packs.
 fn header_fits(first: u32, counts: Header) -> bool
     ensures { result ≡ header_test first counts }
 {
-    if first / 268435456 != 1 {
-        return false;
-    }
-    if !between(1, counts.variables, 32) {
-        return false;
-    }
-    if !between(1, counts.procedures, 16) {
-        return false;
-    }
-    if !between(1, counts.nodes, 256) {
-        return false;
-    }
-    first % 256 == 0
+    first / 268435456 == 1
+        && between(1, counts.variables, 32)
+        && between(1, counts.procedures, 16)
+        && between(1, counts.nodes, 256)
+        && first % 256 == 0
 }
 
 // Question 5.
@@ -76,5 +65,5 @@ pub fn shape(table: &[u8]) -> Verdict
     if !flags_fit(word(table, 1), counts.variables) {
         return refused(5, 0);
     }
-    Verdict::Accepted
+    Ok(())
 }

@@ -6,21 +6,12 @@ ghost use Rattle.table.specs.Header.{header_of};
 use crate::Header;
 use rules::Node;
 
-fn wide(byte: u8) -> u32
-    ensures { (result ≡ byte) × (result < 256) }
-{
-    byte as u32
-}
-
 pub fn word(table: &[u8], i: usize) -> u32
     requires { 4 * i + 3 < length table.now }
     ensures { result ≡ word_at table.now i }
 {
     let at = 4 * i;
-    wide(table[at]) * 16777216
-        + wide(table[at + 1]) * 65536
-        + wide(table[at + 2]) * 256
-        + wide(table[at + 3])
+    u32::from_be_bytes([table[at], table[at + 1], table[at + 2], table[at + 3]])
 }
 
 pub fn header(table: &[u8]) -> Header

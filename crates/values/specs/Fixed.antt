@@ -1,8 +1,7 @@
--- What a `Fixed` says of an expression.
+-- What the value that `fixing` returns, or none, says of an expression.
+use Rattle.std.specs.Prelude.{ℕ, Option, Some, None}
 use Rattle.rules.specs.Judgement.{Fixing, fixed, unfixed}
-use Rattle.values.specs.declared.Fixed.{Fixed}
-use Rattle.values.specs.declared.Fixed.TheVariants.{Value, Nothing}
 
-abbrev pub fixed_as : Fixed → Fixing
-fixed_as (Value v) = fixed v
-fixed_as Nothing = unfixed
+abbrev pub fixed_as : Option ℕ → Fixing
+fixed_as (Some v) = fixed v
+fixed_as None = unfixed

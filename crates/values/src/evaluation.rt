@@ -10,40 +10,8 @@ use rules::kinds::{
     CONSTANT, DIFFERENCE, DOOR, EQUAL, LESS, OWN_NUMBER, PRODUCT, QUOTIENT, SLOT, SUM, VARIABLE,
 };
 use rules::layout::{DOOR_PLACES, DOORS_AT, slot_at};
-use std::num::wrapping_add_u32;
 use table::Header;
 use table::words::node_at;
-
-fn difference(x: u32, y: u32) -> u32
-    ensures { result ≡ applied Operator.difference x y }
-{
-    if y <= x {
-        x - y
-    } else {
-        x + (u32::MAX - y) + 1
-    }
-}
-
-fn product(x: u32, y: u32) -> u32
-    ensures { result ≡ applied Operator.product x y }
-{
-    (x as u64 * y as u64 % 4294967296) as u32
-}
-
-fn quotient(x: u32, y: u32) -> u32
-    ensures { result ≡ applied Operator.quotient x y }
-{
-    if y == 0 { 0 } else { x / y }
-}
-
-fn both(x: u32, y: u32) -> u32
-    ensures { result ≡ applied Operator.both x y }
-{
-    if x == 0 {
-        return 0;
-    }
-    if y == 0 { 0 } else { 1 }
-}
 
 // Kinds 6 to 12 on the values of the two parts.
 pub(crate) fn apply(kind: u32, x: u32, y: u32) -> u32
@@ -51,13 +19,13 @@ pub(crate) fn apply(kind: u32, x: u32, y: u32) -> u32
     ensures { result ≡ applied (operator_of kind) x y }
 {
     match kind {
-        SUM => wrapping_add_u32(x, y),
-        DIFFERENCE => difference(x, y),
-        PRODUCT => product(x, y),
-        QUOTIENT => quotient(x, y),
-        LESS => if x < y { 1 } else { 0 },
-        EQUAL => if x == y { 1 } else { 0 },
-        _ => both(x, y),
+        SUM => x.wrapping_add(y),
+        DIFFERENCE => x.wrapping_sub(y),
+        PRODUCT => x.wrapping_mul(y),
+        QUOTIENT => x.checked_div(y).unwrap_or(0),
+        LESS => u32::from(x < y),
+        EQUAL => u32::from(x == y),
+        _ => u32::from(x != 0 && y != 0),
     }
 }
 
@@ -76,15 +44,12 @@ fn leaf(node: Node, words: &[u32], own: u32, count: u32) -> u32
     ensures { (part : ℕ → ℕ)
         → result ≡ value_of (environment words.now own count) part (expression_of node) }
 {
-    let kind = node.kind;
-    if kind == CONSTANT {
-        return constant(node);
+    match node.kind {
+        CONSTANT => constant(node),
+        VARIABLE => words[node.a as usize],
+        OWN_NUMBER => own,
+        _ => count,
     }
-    if kind == VARIABLE {
-        let a = node.a as usize;
-        return words[a];
-    }
-    if kind == OWN_NUMBER { own } else { count }
 }
 
 // "own door word, door A; from 12 on the value is 0"
@@ -94,8 +59,7 @@ fn door(words: &[u32], x: u32) -> u32
 {
     let place = x as usize;
     if place < DOOR_PLACES {
-        let at = DOORS_AT + place;
-        words[at]
+        words[DOORS_AT + place]
     } else {
         0
     }
@@ -122,19 +86,18 @@ pub fn evaluate(table: &[u8], header: Header, words: &[u32], own: u32, count: u3
     ensures { result ≡ value (decode table.now) (environment words.now own count) n }
 {
     let node = node_at(table, header, n);
-    let kind = node.kind;
-    if kind < DOOR {
+    if node.kind < DOOR {
         return leaf(node, words, own, count);
     }
     let x = value_at(table, header, words, own, count, node.a as usize);
-    if kind == DOOR {
+    if node.kind == DOOR {
         return door(words, x);
     }
-    if kind == SLOT {
+    if node.kind == SLOT {
         return slot(words, count, x, node.b as usize);
     }
     let y = value_at(table, header, words, own, count, node.b as usize);
-    apply(kind, x, y)
+    apply(node.kind, x, y)
 }
 
 // The same, and short enough to stand in its callers: most parts are leaves, and a call would cost more than they do.
@@ -145,8 +108,7 @@ pub fn value_at(table: &[u8], header: Header, words: &[u32], own: u32, count: u3
     ensures { result ≡ value (decode table.now) (environment words.now own count) n }
 {
     let node = node_at(table, header, n);
-    let kind = node.kind;
-    if kind < DOOR {
+    if node.kind < DOOR {
         return leaf(node, words, own, count);
     }
     evaluate(table, header, words, own, count, n)

@@ -7,30 +7,24 @@ ghost use Rattle.rules.specs.Table.{decode};
 ghost use Rattle.rules.specs.WellFormed.{well_formed};
 ghost use Rattle.table.specs.Header.{Passing};
 
-use crate::Fixed;
 use crate::evaluation::{apply, constant};
 use rules::kinds::{CONSTANT, SUM};
 use table::Header;
 use table::words::node_at;
 
 // Calls itself on the parts, which lie below the node: the node number falls.
-pub fn fixing(table: &[u8], header: Header, n: usize) -> Fixed
+pub fn fixing(table: &[u8], header: Header, n: usize) -> Option<u32>
     requires { Passing well_formed table.now header × Part (decode table.now) n }
     ensures { fixed_as result ≡ fixing (decode table.now) n }
 {
     let node = node_at(table, header, n);
-    let kind = node.kind;
-    if kind == CONSTANT {
-        return Fixed::Value(constant(node));
+    if node.kind == CONSTANT {
+        return Some(constant(node));
     }
-    if kind < SUM {
-        return Fixed::Nothing;
+    if node.kind < SUM {
+        return None;
     }
-    let Fixed::Value(first) = fixing(table, header, node.a as usize) else {
-        return Fixed::Nothing;
-    };
-    let Fixed::Value(second) = fixing(table, header, node.b as usize) else {
-        return Fixed::Nothing;
-    };
-    Fixed::Value(apply(kind, first, second))
+    let first = fixing(table, header, node.a as usize)?;
+    let second = fixing(table, header, node.b as usize)?;
+    Some(apply(node.kind, first, second))
 }

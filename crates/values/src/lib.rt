@@ -3,10 +3,3 @@
 
 pub mod evaluation; // evaluation.rt: the value in a process's words
 pub mod fixing; // fixing.rt: what an expression is fixed as
-
-// What an expression is fixed as: its value, or none.
-#[derive(Clone, Copy)]
-pub enum Fixed {
-    Value(u32),
-    Nothing,
-}

@@ -7,9 +7,7 @@ use native.Mathlib.Decide.{dec_lt}
 use native.Mathlib.Numerals.{add-one}
 use native.Mathlib.Omega.{arith}
 use borrow.Author.Tests.{lt-ltb, le-ltb, not-true, not-false}
-use Rattle.rules.specs.declared.Verdict.{Verdict}
-use Rattle.rules.specs.declared.Verdict.TheVariants.{Accepted}
-use Rattle.rules.specs.Answers.{refused, ◌then◌, ask_each}
+use Rattle.rules.specs.Answers.{Verdict, Accepted, refused, ◌then◌, ask_each}
 use Rattle.rules.specs.Choice.{first_failing}
 use Rattle.rules.proofs.ChoiceLaws.{bool_cases}
 use Rattle.table.proofs.PlaceLaws.{then_none}

@@ -7,7 +7,6 @@ use Prim.Native.Nat.{ℕ, ◌<◌}
 use native.Mathlib.Decide.{ℕ_discrete}
 use native.Mathlib.Omega.{arith}
 use lib.Dec.{leb, eqb}
-use lib.ListN.{get_or}
 use borrow.Author.Tests.{ltb-true, not-true, eqb-false}
 use Rattle.rules.specs.declared.Node.{Node}
 use Rattle.rules.specs.Table.{Program, Statement, nothing, assign, sequence, branch, loop, call, latch, collective, leave}
@@ -17,8 +16,11 @@ use Rattle.rules.proofs.AnswerLaws.{both_left, both_right}
 use Rattle.rules.proofs.ChoiceLaws.{bool_cases}
 use Rattle.rules.proofs.KindLaws.{call_of, by_kind}
 use Rattle.table.specs.declared.Header.{Header}
+use Rattle.table.specs.declared.fields.Role.{Role}
+use Rattle.table.specs.declared.fields.Role.TheVariants.{Unnamed, Variable, Expression, Statement as StatementRole, Procedure, Half, Area}
+use Rattle.table.specs.declared.fields.Roles.{Roles}
 use Rattle.table.specs.Marks.{bit_at, with_bit, with_bits}
-use Rattle.table.specs.Roles.{roles, digit, role_of, is_part, field_zero, field_fits, field_parts}
+use Rattle.table.specs.Roles.{three, no_roles, roles, roles_of, is_part, field_zero, field_fits, field_parts}
 use Rattle.table.specs.Sized.{Sized}
 use Rattle.table.specs.Uses.{CallsBelow}
 use Rattle.table.proofs.BitLaws.{bit-other}
@@ -42,15 +44,15 @@ pub markable : {table : List ℕ} {header : Header} {n a : ℕ} → Sized table 
 markable sized inside below = omega (arith, sized.nodes-high, sized.nodes-read)
 
 -- a field names no node, or one that is not marked
-abbrev pub Free : List ℕ → ℕ → ℕ → Type 0
+abbrev pub Free : List ℕ → Role → ℕ → Type 0
 Free m role value = is_part role ≡ true → bit_at m value ≡ false
 
-field-fresh : (m : List ℕ) (best role value : ℕ) → Free m role value → repeated_code m best (field_parts role value) ≡ best
+field-fresh : (m : List ℕ) (best : ℕ) (role : Role) (value : ℕ) → Free m role value → repeated_code m best (field_parts role value) ≡ best
 unfolding repeated_code noted_code field_parts
 field-fresh m best role value free =
     ⊎_elim (λ (e : is_part role ≡ true). simp (e, free e)) (λ (e : is_part role ≡ false). simp e) (bool_cases (is_part role))
 
-free-kept : (m : List ℕ) (r x s y : ℕ) → Free m s y → distinct r x s y ≡ true → Free (with_bits m (field_parts r x)) s y
+free-kept : (m : List ℕ) (r : Role) (x : ℕ) (s : Role) (y : ℕ) → Free m s y → distinct r x s y ≡ true → Free (with_bits m (field_parts r x)) s y
 unfolding with_bits field_parts distinct
 free-kept m r x s y free apart part =
     ⊎_elim
@@ -62,7 +64,7 @@ free-kept m r x s y free apart part =
     (bool_cases (is_part r))
 
 -- what the test of a field says
-module _ (program : Program) (m : List ℕ) (v : Visit) (role value : ℕ) (h : field_free program m v role value ≡ true) where
+module _ (program : Program) (m : List ℕ) (v : Visit) (role : Role) (value : ℕ) (h : field_free program m v role value ≡ true) where
   abbrev fits : Bool
   fits = field_fits program v.node role value
 
@@ -95,29 +97,40 @@ module _ (program : Program) (m : List ℕ) (v : Visit) (role value : ℕ) (h : 
   pub free-bit : Free m role value
   free-bit part = not-true (bit_at m value) (simp part at (both_right inside _ from-inside))
 
+-- a field that names no procedure is below any limit
+pub within-other : (limit : ℕ) (role : Role) (value : ℕ) → (role ≡ Procedure → ⊥) → within limit role value ≡ true
+unfolding within
+within-other limit Unnamed value other = refl
+within-other limit Variable value other = refl
+within-other limit Expression value other = refl
+within-other limit StatementRole value other = refl
+within-other limit Procedure value other = absurd (other refl)
+within-other limit Half value other = refl
+within-other limit Area value other = refl
+
 -- the three fields
 
-pub record Three (program : Program) (m : List ℕ) (v : Visit) (node : Node) (roles : ℕ) : Type 0 where
-  pub a : field_free program m v (digit roles 100) node.a ≡ true
-  pub b : field_free program m v (digit roles 10) node.b ≡ true
-  pub c : field_free program m v (digit roles 1) node.c ≡ true
-  pub a-b : distinct (digit roles 100) node.a (digit roles 10) node.b ≡ true
-  pub a_c : distinct (digit roles 100) node.a (digit roles 1) node.c ≡ true
-  pub b-c : distinct (digit roles 10) node.b (digit roles 1) node.c ≡ true
+pub record Three (program : Program) (m : List ℕ) (v : Visit) (node : Node) (roles : Roles) : Type 0 where
+  pub a : field_free program m v roles.a node.a ≡ true
+  pub b : field_free program m v roles.b node.b ≡ true
+  pub c : field_free program m v roles.c node.c ≡ true
+  pub a-b : distinct roles.a node.a roles.b node.b ≡ true
+  pub a_c : distinct roles.a node.a roles.c node.c ≡ true
+  pub b-c : distinct roles.b node.b roles.c node.c ≡ true
 
-module _ (program : Program) (m : List ℕ) (v : Visit) (node : Node) (roles : ℕ) where
-  abbrev ra : ℕ
-  ra = digit roles 100
+module _ (program : Program) (m : List ℕ) (v : Visit) (node : Node) (roles : Roles) where
+  abbrev ra : Role
+  ra = roles.a
 
-  abbrev rb : ℕ
-  rb = digit roles 10
+  abbrev rb : Role
+  rb = roles.b
 
-  abbrev rc : ℕ
-  rc = digit roles 1
+  abbrev rc : Role
+  rc = roles.c
 
-  pub three : fields_free program m v node roles ≡ true → Three program m v node roles
+  pub three-tests : fields_free program m v node roles ≡ true → Three program m v node roles
   unfolding fields_free
-  three h =
+  three-tests h =
       let from-b = both_right (field_free program m v ra node.a) _ h in
       let from-c = both_right (field_free program m v rb node.b) _ from-b in
       let pairs = both_right (field_free program m v rc node.c) _ from-c in
@@ -164,46 +177,42 @@ used-three m a b c first second third = third ∙ simp (second, first, bits_appe
 -- the fields of a node that fits: each part lies below the node, and the three fields are its parts
 
 module _ (program : Program) (n : ℕ) (node : Node) (here : node ≡ node_at program n) (fits : node_fits program n ≡ true) where
-  pub a-below : {role : ℕ} → role ≡ role_of node.kind 100 → is_part role ≡ true → node.a < n
+  pub a-below : {roles : Roles} → roles ≡ roles_of node.kind → is_part roles.a ≡ true → node.a < n
   a-below e part =
-      part-below program n (role_of node.kind 100) node.a (rw here (fields_fit program n fits).0) (rw e at part)
+      part-below program n (roles_of node.kind).a node.a (rw here (fields_fit program n fits).0) (rw e at part)
 
-  pub b-below : {role : ℕ} → role ≡ role_of node.kind 10 → is_part role ≡ true → node.b < n
+  pub b-below : {roles : Roles} → roles ≡ roles_of node.kind → is_part roles.b ≡ true → node.b < n
   b-below e part =
-      part-below program n (role_of node.kind 10) node.b (rw here (fields_fit program n fits).1) (rw e at part)
+      part-below program n (roles_of node.kind).b node.b (rw here (fields_fit program n fits).1) (rw e at part)
 
-  pub c-below : {role : ℕ} → role ≡ role_of node.kind 1 → is_part role ≡ true → node.c < n
+  pub c-below : {roles : Roles} → roles ≡ roles_of node.kind → is_part roles.c ≡ true → node.c < n
   c-below e part =
-      part-below program n (role_of node.kind 1) node.c (rw here (fields_fit program n fits).2) (rw e at part)
+      part-below program n (roles_of node.kind).c node.c (rw here (fields_fit program n fits).2) (rw e at part)
 
 -- what noting the nodes of a list answers and leaves
 abbrev Coded : List ℕ → ℕ → List ℕ → ℕ → List ℕ → Type 0
 Coded marks best list r after = (r ≡ repeated_code marks best list) × (after ≡ with_bits marks list)
 
-pub three-codes : (program : Program) (n : ℕ) (m : Node) (marks m1 m2 m3 : List ℕ) (best r1 r2 r3 ra rb rc : ℕ)
-    → m ≡ node_at program n → ra ≡ role_of m.kind 100 → rb ≡ role_of m.kind 10 → rc ≡ role_of m.kind 1
-    → Coded marks best (field_parts ra m.a) r1 m1
-    → Coded m1 r1 (field_parts rb m.b) r2 m2
-    → Coded m2 r2 (field_parts rc m.c) r3 m3
+pub three-codes : (program : Program) (n : ℕ) (m : Node) (marks m1 m2 m3 : List ℕ) (best r1 r2 r3 : ℕ) (roles : Roles)
+    → m ≡ node_at program n → roles ≡ roles_of m.kind
+    → Coded marks best (field_parts roles.a m.a) r1 m1
+    → Coded m1 r1 (field_parts roles.b m.b) r2 m2
+    → Coded m2 r2 (field_parts roles.c m.c) r3 m3
     → Coded marks best (parts_at program n) r3 m3
-three-codes program n m marks m1 m2 m3 best r1 r2 r3 ra rb rc node a b c first second third =
-    let parts : parts_at program n ≡ field_parts ra m.a ++ (field_parts rb m.b ++ field_parts rc m.c) =
-    simp (a, b, c, node) (parts_law program n) in (
+three-codes program n m marks m1 m2 m3 best r1 r2 r3 roles node named first second third =
+    let parts : parts_at program n ≡ field_parts roles.a m.a ++ (field_parts roles.b m.b ++ field_parts roles.c m.c) =
+    simp (named, node) (parts_law program n) in (
       third.0 ∙ simp (parts, codes_append, second.1, second.0, first.1, first.0),
       third.1 ∙ simp (parts, bits_append, second.1, first.1),
     )
 
--- a known kind, and the number whose digits are its roles
+-- a known kind, and the roles of its fields
 abbrev pub known_kind : ℕ → Bool
 known_kind kind = leb kind last_expression || (leb first_statement kind && leb kind last_statement)
 
-pub record Named (kind number : ℕ) : Type 0 where
+pub record Named (kind : ℕ) (roles : Roles) : Type 0 where
   pub known : known_kind kind ≡ true
-  pub digits : get_or roles kind 0 ≡ number
-
-role_named : {kind number : ℕ} (place : ℕ) → Named kind number → role_of kind place ≡ digit number place
-unfolding role_of
-role_named place named = ap (λ all. digit all place) named.digits
+  pub named : roles_of kind ≡ roles
 
 -- no other kind is a call
 abbrev is_call : Statement → Bool
@@ -224,47 +233,38 @@ no_call m other q e =
     (λ h. refl) (λ h. refl) (λ h. refl) (λ h. refl) refl in
     never (sym (ap is_call e) ∙ none)
 
-call_role : {kind : ℕ} → kind ≡ 21 → role_of kind 100 ≡ 4
-unfolding role_of roles
+call_role : {kind : ℕ} → kind ≡ 21 → (roles_of kind).a ≡ Procedure
+unfolding roles_of roles
 call_role e = rw e
 
-procedure-below : (limit role value : ℕ) → within limit role value ≡ true → role ≡ 4 → value < limit
+procedure-below : (limit : ℕ) (role : Role) (value : ℕ) → within limit role value ≡ true → role ≡ Procedure → value < limit
 unfolding within
-procedure-below limit role value inside four = ltb-true value limit (rw four at inside)
+procedure-below limit role value inside procedure = ltb-true value limit (rw procedure at inside)
 
 -- what `quick` promises of a node whose fields are free
 
-module _ (program : Program) (v : Visit) (m : Node) (here : m ≡ node_at program v.node) (roles : ℕ)
+module _ (program : Program) (v : Visit) (m : Node) (here : m ≡ node_at program v.node) (roles : Roles)
     (named : Named m.kind roles) where
-  named-a : role_of m.kind 100 ≡ digit roles 100
-  named-a = role_named 100 named
-
-  named-b : role_of m.kind 10 ≡ digit roles 10
-  named-b = role_named 10 named
-
-  named-c : role_of m.kind 1 ≡ digit roles 1
-  named-c = role_named 1 named
-
   pub known_is : kind_known program v.node ≡ true
   unfolding kind_known is_expression is_statement
   known_is = simp (← here) named.known
 
   pub zero_is : unnamed_zero (node_at program v.node)
-      ≡ (field_zero (digit roles 100) m.a && (field_zero (digit roles 10) m.b && field_zero (digit roles 1) m.c))
-  zero_is = simp (← here) (zero_law m ∙ simp (named-a, named-b, named-c))
+      ≡ (field_zero roles.a m.a && (field_zero roles.b m.b && field_zero roles.c m.c))
+  zero_is = simp (← here) (zero_law m ∙ simp named.named)
 
   pub fits-is : node_fits program v.node
-      ≡ (field_fits program v.node (digit roles 100) m.a
-      && (field_fits program v.node (digit roles 10) m.b && field_fits program v.node (digit roles 1) m.c))
-  fits-is = fits_law program v.node ∙ simp (← here, named-a, named-b, named-c)
+      ≡ (field_fits program v.node roles.a m.a
+      && (field_fits program v.node roles.b m.b && field_fits program v.node roles.c m.c))
+  fits-is = fits_law program v.node ∙ simp (← here, named.named)
 
   pub parts_are : parts_at program v.node ≡ three_parts m roles
-  parts_are = parts_law program v.node ∙ simp (← here, named-a, named-b, named-c)
+  parts_are = parts_law program v.node ∙ simp (← here, named.named)
 
   module _ (before : List ℕ) where
     pub quickly : {after : List ℕ} → Used program v m roles before after → Quick program v.node before after
     quickly u =
-        let t = three program before v m roles u.free in
+        let t = three-tests program before v m roles u.free in
         record {
           known = known_is;
           zero = zero_is ∙ simp (free-zero _ _ _ _ _ t.a, free-zero _ _ _ _ _ t.b, free-zero _ _ _ _ _ t.c);
@@ -279,84 +279,84 @@ module _ (program : Program) (v : Visit) (m : Node) (here : m ≡ node_at progra
         let is : statement_of m ≡ call q = ap statement_of here ∙ s in
         elim (ℕ_discrete m.kind 21) [
           | yes e ↦
-              let t = three program before v m roles free in
+              let t = three-tests program before v m roles free in
               let same : m.a ≡ q = cc (call_of m e) in
-              let four = sym named-a ∙ call_role e in
-              rw same at (procedure-below _ _ _ (free-inside _ _ _ _ _ t.a) four)
+              let procedure : roles.a ≡ Procedure = ap (λ (r : Roles). r.a) (sym named.named) ∙ call_role e in
+              rw same at (procedure-below _ _ _ (free-inside _ _ _ _ _ t.a) procedure)
           | no other ↦ absurd (no_call m other q is)
         ]
 
 -- the kinds, as the match has them
 
-named_as : {kind : ℕ} (k : ℕ) → known_kind k ≡ true → kind ≡ k → Named kind (get_or roles k 0)
-named_as k known e = rw e (record { known = known; digits = refl })
+named_as : {kind : ℕ} (k : ℕ) → known_kind k ≡ true → kind ≡ k → Named kind (roles_of k)
+named_as k known e = rw e (record { known = known; named = refl })
 
 module _ (kind : ℕ) where
-  pub named_0 : kind ≡ 0 → Named kind 55
-  unfolding roles
+  pub named_0 : kind ≡ 0 → Named kind (three Unnamed Half Half)
+  unfolding roles_of roles
   named_0 = named_as 0 refl
 
-  pub named_1 : kind ≡ 1 → Named kind 100
-  unfolding roles
+  pub named_1 : kind ≡ 1 → Named kind (three Variable Unnamed Unnamed)
+  unfolding roles_of roles
   named_1 = named_as 1 refl
 
-  pub named_2 : (kind ≡ 2) ⊎ (kind ≡ 23) → Named kind 0
-  unfolding roles
+  pub named_2 : (kind ≡ 2) ⊎ (kind ≡ 23) → Named kind no_roles
+  unfolding roles_of roles
   named_2 = ⊎_elim (named_as 2 refl) (named_as 23 refl)
 
-  pub named_3 : (kind ≡ 3) ⊎ (kind ≡ 16) → Named kind 0
-  unfolding roles
+  pub named_3 : (kind ≡ 3) ⊎ (kind ≡ 16) → Named kind no_roles
+  unfolding roles_of roles
   named_3 = ⊎_elim (named_as 3 refl) (named_as 16 refl)
 
-  pub named_4 : kind ≡ 4 → Named kind 200
-  unfolding roles
+  pub named_4 : kind ≡ 4 → Named kind (three Expression Unnamed Unnamed)
+  unfolding roles_of roles
   named_4 = named_as 4 refl
 
-  pub named_5 : kind ≡ 5 → Named kind 260
-  unfolding roles
+  pub named_5 : kind ≡ 5 → Named kind (three Expression Area Unnamed)
+  unfolding roles_of roles
   named_5 = named_as 5 refl
 
   pub named_6 : (kind ≡ 6) ⊎ ((kind ≡ 7) ⊎ ((kind ≡ 8) ⊎ ((kind ≡ 9) ⊎ ((kind ≡ 10) ⊎ ((kind ≡ 11) ⊎ (kind ≡ 12))))))
-      → Named kind 220
-  unfolding roles
+      → Named kind (three Expression Expression Unnamed)
+  unfolding roles_of roles
   named_6 =
       ⊎_elim (named_as 6 refl)
       (⊎_elim (named_as 7 refl)
       (⊎_elim (named_as 8 refl)
       (⊎_elim (named_as 9 refl) (⊎_elim (named_as 10 refl) (⊎_elim (named_as 11 refl) (named_as 12 refl))))))
 
-  pub named_17 : kind ≡ 17 → Named kind 120
-  unfolding roles
+  pub named_17 : kind ≡ 17 → Named kind (three Variable Expression Unnamed)
+  unfolding roles_of roles
   named_17 = named_as 17 refl
 
-  pub named_18 : kind ≡ 18 → Named kind 330
-  unfolding roles
+  pub named_18 : kind ≡ 18 → Named kind (three StatementRole StatementRole Unnamed)
+  unfolding roles_of roles
   named_18 = named_as 18 refl
 
-  pub named_19 : kind ≡ 19 → Named kind 233
-  unfolding roles
+  pub named_19 : kind ≡ 19 → Named kind (three Expression StatementRole StatementRole)
+  unfolding roles_of roles
   named_19 = named_as 19 refl
 
-  pub named_20 : kind ≡ 20 → Named kind 230
-  unfolding roles
+  pub named_20 : kind ≡ 20 → Named kind (three Expression StatementRole Unnamed)
+  unfolding roles_of roles
   named_20 = named_as 20 refl
 
-  pub named_21 : kind ≡ 21 → Named kind 400
-  unfolding roles
+  pub named_21 : kind ≡ 21 → Named kind (three Procedure Unnamed Unnamed)
+  unfolding roles_of roles
   named_21 = named_as 21 refl
 
-  pub named_22 : kind ≡ 22 → Named kind 220
-  unfolding roles
+  pub named_22 : kind ≡ 22 → Named kind (three Expression Expression Unnamed)
+  unfolding roles_of roles
   named_22 = named_as 22 refl
 
-  pub named_24 : kind ≡ 24 → Named kind 122
-  unfolding roles
+  pub named_24 : kind ≡ 24 → Named kind (three Variable Expression Expression)
+  unfolding roles_of roles
   named_24 = named_as 24 refl
 
-  pub named_25 : kind ≡ 25 → Named kind 260
-  unfolding roles
+  pub named_25 : kind ≡ 25 → Named kind (three Expression Area Unnamed)
+  unfolding roles_of roles
   named_25 = named_as 25 refl
 
-  pub named_26 : kind ≡ 26 → Named kind 0
-  unfolding roles
+  pub named_26 : kind ≡ 26 → Named kind no_roles
+  unfolding roles_of roles
   named_26 = named_as 26 refl

@@ -15,13 +15,17 @@ use Rattle.rules.specs.WellFormed.{is_expression, is_statement, expression_part,
 use Rattle.rules.proofs.AnswerLaws.{both_left, both_right}
 use Rattle.rules.proofs.ChoiceLaws.{bool_cases}
 use Rattle.table.specs.declared.Header.{Header}
+use Rattle.table.specs.declared.fields.Role.{Role}
+use Rattle.table.specs.declared.fields.Role.TheVariants.{Variable, Expression, Statement as StatementRole}
 use Rattle.table.specs.Marks.{bit_at, with_bit}
-use Rattle.table.specs.Roles.{roles, role_of, field_fits}
+use Rattle.table.specs.Roles.{roles, roles_of, field_fits}
 use Rattle.table.specs.Sized.{Sized}
 use Rattle.table.proofs.BitLaws.{length-with_bit}
 use Rattle.table.proofs.FittingLaws.{fields_fit}
 use Rattle.table.proofs.TestLaws.{never}
 use Rattle.visit.specs.declared.Visit.{Visit}
+use Rattle.visit.specs.declared.facts.Source.{Source}
+use Rattle.visit.specs.declared.facts.Source.TheVariants.{Never, Always, Unflagged, Flagged, Called, OfA, OfB, OfAOrB, OfBOrC}
 use Rattle.visit.specs.Facts.{Reading, fact, guard_code, FactsTo, sourced, ruled, Settled}
 use Rattle.visit.specs.Fields.{facts_plane, all_planes}
 use Rattle.visit.specs.Least.{none, code}
@@ -31,7 +35,7 @@ use Rattle.visit.proofs.LeastLaws.{passed, failed}
 use Rattle.visit.proofs.PlaneLaws.{facts-length, used_put_facts, facts_put_facts, leaves_put_facts, length_put_facts}
 
 -- the answers of `settled`
-module _ (program : Program) (v : Visit) (m : Node) (used : Bool) (source question guard : ℕ) (before : List ℕ)
+module _ (program : Program) (v : Visit) (m : Node) (used : Bool) (source : Source) (question guard : ℕ) (before : List ℕ)
     (size : length before ≡ all_planes) where
   abbrev found : Bool
   found = sourced program (facts_plane before) m source
@@ -66,7 +70,7 @@ module _ (program : Program) (v : Visit) (m : Node) (used : Bool) (source questi
         }
 
 -- a source gives the fact of node n, and a question with its guard the refusal by the node's rule
-pub record Judges (program : Program) (reading : ℕ → Statement) (n : ℕ) (facts : List ℕ) (source question guard : ℕ) : Type 0 where
+pub record Judges (program : Program) (reading : ℕ → Statement) (n : ℕ) (facts : List ℕ) (source : Source) (question guard : ℕ) : Type 0 where
   pub fact-is : sourced program facts (node_at program n) source ≡ fact program reading n
   pub rule-is : cond (fact program reading n) (ruled (bit_at facts (guard % 256)) question n) none ≡ guard_code program reading n
 
@@ -97,19 +101,19 @@ module _ (table : List ℕ) (n : ℕ) (header : Header) (facts : List ℕ) (size
 
   -- the fields by their roles
 
-  abbrev Fits : ℕ → ℕ → Type 0
+  abbrev Fits : Role → ℕ → Type 0
   Fits role value = field_fits (decode table) n role value ≡ true
 
-  a-fits : (k : ℕ) → kind ≡ k → Fits (role_of k 100) a
+  a-fits : (k : ℕ) → kind ≡ k → Fits (roles_of k).a a
   a-fits k e = rw e at (fields_fit (decode table) n fits).0
 
-  b-fits : (k : ℕ) → kind ≡ k → Fits (role_of k 10) b
+  b-fits : (k : ℕ) → kind ≡ k → Fits (roles_of k).b b
   b-fits k e = rw e at (fields_fit (decode table) n fits).1
 
-  c-fits : (k : ℕ) → kind ≡ k → Fits (role_of k 1) c
+  c-fits : (k : ℕ) → kind ≡ k → Fits (roles_of k).c c
   c-fits k e = rw e at (fields_fit (decode table) n fits).2
 
-  same-variable : (v : ℕ) → Fits 1 v → v % 32 ≡ v
+  same-variable : (v : ℕ) → Fits Variable v → v % 32 ≡ v
   unfolding field_fits
   same-variable v f = omega (arith, ltb-true v (variables (decode table)) f, sized.variables-high)
 
@@ -125,11 +129,11 @@ module _ (table : List ℕ) (n : ℕ) (header : Header) (facts : List ℕ) (size
       let same : v % 256 ≡ v = omega (arith, l, low, sized.nodes-high) in
       record { below = l; sorted = both_right (ltb v n) sort f; bit = rw same (known.known v l) }
 
-  expression : (v : ℕ) → Fits 2 v → Part (is_expression (decode table) v) v
+  expression : (v : ℕ) → Fits Expression v → Part (is_expression (decode table) v) v
   unfolding field_fits expression_part
   expression v f = part (is_expression (decode table) v) v f
 
-  statement : (v : ℕ) → Fits 3 v → Part (is_statement (decode table) v) v
+  statement : (v : ℕ) → Fits StatementRole v → Part (is_statement (decode table) v) v
   unfolding field_fits statement_part
   statement v f = part (is_statement (decode table) v) v f
 
@@ -141,12 +145,12 @@ module _ (table : List ℕ) (n : ℕ) (header : Header) (facts : List ℕ) (size
       let other : (i : ℕ) → asked i ≡ true → kind ≡ i → ⊥ = λ i t h. never (sym t ∙ ap asked (sym h ∙ e) ∙ f) in
       rule-none (decode table) n reading (other 17 refl) (other 19 refl) (other 20 refl) (other 24 refl)
 
-  plain : (source guard : ℕ) → guard_code (decode table) counts n ≡ none → sourced (decode table) facts (node_at (decode table) n) source ≡ fact (decode table) counts n
+  plain : (source : Source) (guard : ℕ) → guard_code (decode table) counts n ≡ none → sourced (decode table) facts (node_at (decode table) n) source ≡ fact (decode table) counts n
       → Judges (decode table) counts n facts source 0 guard
   unfolding ruled
   plain source guard r f = record { fact-is = f; rule-is = rw r (either_way (fact (decode table) counts n) none) }
 
-  guarded : (source question guard : ℕ) {sort : Bool} → eqb question 0 ≡ false → Part sort guard
+  guarded : (source : Source) (question guard : ℕ) {sort : Bool} → eqb question 0 ≡ false → Part sort guard
       → sourced (decode table) facts (node_at (decode table) n) source ≡ fact (decode table) counts n
       → guard_code (decode table) counts n ≡ cond (fact (decode table) counts n) (cond (fact (decode table) counts guard) (code question n) none) none
       → Judges (decode table) counts n facts source question guard
@@ -155,39 +159,39 @@ module _ (table : List ℕ) (n : ℕ) (header : Header) (facts : List ℕ) (size
 
   -- by kind
 
-  pub judges_0 : kind ≡ 0 → Judges (decode table) counts n facts 0 0 a
+  pub judges_0 : kind ≡ 0 → Judges (decode table) counts n facts Never 0 a
   unfolding sourced asked once
-  judges_0 e = plain 0 a (quiet 0 e refl) (sym (fact_as (decode table) n reading 0 e))
+  judges_0 e = plain Never a (quiet 0 e refl) (sym (fact_as (decode table) n reading 0 e))
 
-  pub judges_1 : kind ≡ 1 → Judges (decode table) counts n facts 2 0 a
-  unfolding sourced asked role_of roles
+  pub judges_1 : kind ≡ 1 → Judges (decode table) counts n facts Unflagged 0 a
+  unfolding sourced asked roles_of roles
   judges_1 e =
-      plain 2 a (quiet 1 e refl) (ap (λ v. not (flagged (decode table) v)) (same-variable a (a-fits 1 e)) ∙ sym (fact_1 (decode table) n reading e))
+      plain Unflagged a (quiet 1 e refl) (ap (λ v. not (flagged (decode table) v)) (same-variable a (a-fits 1 e)) ∙ sym (fact_1 (decode table) n reading e))
 
-  pub judges_2 : (kind ≡ 2) ⊎ (kind ≡ 23) → Judges (decode table) counts n facts 1 0 a
+  pub judges_2 : (kind ≡ 2) ⊎ (kind ≡ 23) → Judges (decode table) counts n facts Always 0 a
   unfolding sourced asked once
   judges_2 =
-      ⊎_elim (λ (e : kind ≡ 2). plain 1 a (quiet 2 e refl) (sym (fact_as (decode table) n reading 2 e)))
-      (λ (e : kind ≡ 23). plain 1 a (quiet 23 e refl) (sym (fact_as (decode table) n reading 23 e)))
+      ⊎_elim (λ (e : kind ≡ 2). plain Always a (quiet 2 e refl) (sym (fact_as (decode table) n reading 2 e)))
+      (λ (e : kind ≡ 23). plain Always a (quiet 23 e refl) (sym (fact_as (decode table) n reading 23 e)))
 
-  pub judges_3 : (kind ≡ 3) ⊎ (kind ≡ 16) → Judges (decode table) counts n facts 0 0 a
+  pub judges_3 : (kind ≡ 3) ⊎ (kind ≡ 16) → Judges (decode table) counts n facts Never 0 a
   unfolding sourced asked once
   judges_3 =
-      ⊎_elim (λ (e : kind ≡ 3). plain 0 a (quiet 3 e refl) (sym (fact_as (decode table) n reading 3 e)))
-      (λ (e : kind ≡ 16). plain 0 a (quiet 16 e refl) (sym (fact_as (decode table) n reading 16 e)))
+      ⊎_elim (λ (e : kind ≡ 3). plain Never a (quiet 3 e refl) (sym (fact_as (decode table) n reading 3 e)))
+      (λ (e : kind ≡ 16). plain Never a (quiet 16 e refl) (sym (fact_as (decode table) n reading 16 e)))
 
-  pub judges_4 : kind ≡ 4 → Judges (decode table) counts n facts 1 0 a
+  pub judges_4 : kind ≡ 4 → Judges (decode table) counts n facts Always 0 a
   unfolding sourced asked once
-  judges_4 e = plain 1 a (quiet 4 e refl) (sym (fact_as (decode table) n reading 4 e))
+  judges_4 e = plain Always a (quiet 4 e refl) (sym (fact_as (decode table) n reading 4 e))
 
-  pub judges_5 : kind ≡ 5 → Judges (decode table) counts n facts 5 0 a
-  unfolding sourced asked role_of roles
+  pub judges_5 : kind ≡ 5 → Judges (decode table) counts n facts OfA 0 a
+  unfolding sourced asked roles_of roles
   judges_5 e =
       let p = expression a (a-fits 5 e) in
-      plain 5 a (quiet 5 e refl) (p.bit ∙ sym (fact_5 (decode table) n reading e p.below p.sorted))
+      plain OfA a (quiet 5 e refl) (p.bit ∙ sym (fact_5 (decode table) n reading e p.below p.sorted))
 
-  operation : (k : ℕ) → kind ≡ k → (leb 6 k && leb k 12) ≡ true → role_of k 100 ≡ 2 → role_of k 10 ≡ 2
-      → Judges (decode table) counts n facts 7 0 a
+  operation : (k : ℕ) → kind ≡ k → (leb 6 k && leb k 12) ≡ true → (roles_of k).a ≡ Expression → (roles_of k).b ≡ Expression
+      → Judges (decode table) counts n facts OfAOrB 0 a
   unfolding sourced
   operation k e h x y =
       let from = leb-true 6 k (both_left (leb 6 k) (leb k 12) h) in
@@ -195,12 +199,12 @@ module _ (table : List ℕ) (n : ℕ) (header : Header) (facts : List ℕ) (size
       let p = expression a (rw x at (a-fits k e)) in
       let q = expression b (rw y at (b-fits k e)) in
       let here = fact-operation (decode table) n reading (omega arith) (omega arith) p.below q.below p.sorted q.sorted in
-      plain 7 a (rule-none (decode table) n reading (omega arith) (omega arith) (omega arith) (omega arith)) (rw (p.bit, q.bit, here))
+      plain OfAOrB a (rule-none (decode table) n reading (omega arith) (omega arith) (omega arith) (omega arith)) (rw (p.bit, q.bit, here))
 
   pub judges_6 : (kind ≡ 6)
       ⊎ ((kind ≡ 7) ⊎ ((kind ≡ 8) ⊎ ((kind ≡ 9) ⊎ ((kind ≡ 10) ⊎ ((kind ≡ 11) ⊎ (kind ≡ 12))))))
-      → Judges (decode table) counts n facts 7 0 a
-  unfolding role_of roles
+      → Judges (decode table) counts n facts OfAOrB 0 a
+  unfolding roles_of roles
   judges_6 =
       ⊎_elim (λ (e : kind ≡ 6). operation 6 e refl refl refl)
       (⊎_elim (λ (e : kind ≡ 7). operation 7 e refl refl refl)
@@ -209,59 +213,59 @@ module _ (table : List ℕ) (n : ℕ) (header : Header) (facts : List ℕ) (size
       (⊎_elim (λ (e : kind ≡ 10). operation 10 e refl refl refl)
       (⊎_elim (λ (e : kind ≡ 11). operation 11 e refl refl refl) (λ (e : kind ≡ 12). operation 12 e refl refl refl))))))
 
-  pub judges_17 : kind ≡ 17 → Judges (decode table) counts n facts 3 13 b
-  unfolding sourced role_of roles
+  pub judges_17 : kind ≡ 17 → Judges (decode table) counts n facts Flagged 13 b
+  unfolding sourced roles_of roles
   judges_17 e =
       let p = expression b (b-fits 17 e) in
-      guarded 3 13 b refl p (ap (flagged (decode table)) (same-variable a (a-fits 17 e)) ∙ sym (fact_17 (decode table) n reading e))
+      guarded Flagged 13 b refl p (ap (flagged (decode table)) (same-variable a (a-fits 17 e)) ∙ sym (fact_17 (decode table) n reading e))
       (rw (fact_17 (decode table) n reading e) (rule_17 (decode table) n reading e p.sorted))
 
-  pub judges_18 : kind ≡ 18 → Judges (decode table) counts n facts 7 0 a
-  unfolding sourced asked role_of roles
+  pub judges_18 : kind ≡ 18 → Judges (decode table) counts n facts OfAOrB 0 a
+  unfolding sourced asked roles_of roles
   judges_18 e =
       let p = statement a (a-fits 18 e) in
       let q = statement b (b-fits 18 e) in
-      plain 7 a (quiet 18 e refl)
+      plain OfAOrB a (quiet 18 e refl)
       (rw (p.bit, q.bit, fact_18 (decode table) n reading e p.below q.below p.sorted q.sorted))
 
-  pub judges_19 : kind ≡ 19 → Judges (decode table) counts n facts 8 15 a
-  unfolding sourced role_of roles
+  pub judges_19 : kind ≡ 19 → Judges (decode table) counts n facts OfBOrC 15 a
+  unfolding sourced roles_of roles
   judges_19 e =
       let p = expression a (a-fits 19 e) in
       let q = statement b (b-fits 19 e) in
       let r = statement c (c-fits 19 e) in
       let here = fact_19 (decode table) n reading e q.below r.below q.sorted r.sorted in
-      guarded 8 15 a refl p (rw (q.bit, r.bit, here)) (rw here (rule_19 (decode table) n reading e p.sorted q.sorted r.sorted))
+      guarded OfBOrC 15 a refl p (rw (q.bit, r.bit, here)) (rw here (rule_19 (decode table) n reading e p.sorted q.sorted r.sorted))
 
-  pub judges_20 : kind ≡ 20 → Judges (decode table) counts n facts 6 16 a
-  unfolding sourced role_of roles
+  pub judges_20 : kind ≡ 20 → Judges (decode table) counts n facts OfB 16 a
+  unfolding sourced roles_of roles
   judges_20 e =
       let p = expression a (a-fits 20 e) in
       let q = statement b (b-fits 20 e) in
       let here = fact_20 (decode table) n reading e q.below q.sorted in
-      guarded 6 16 a refl p (rw (q.bit, here)) (rule_20 (decode table) n reading e p.sorted)
+      guarded OfB 16 a refl p (rw (q.bit, here)) (rule_20 (decode table) n reading e p.sorted)
 
-  pub judges_21 : kind ≡ 21 → Judges (decode table) counts n facts 4 0 a
+  pub judges_21 : kind ≡ 21 → Judges (decode table) counts n facts Called 0 a
   unfolding sourced asked once
-  judges_21 e = plain 4 a (quiet 21 e refl) (sym (fact_as (decode table) n reading 21 e))
+  judges_21 e = plain Called a (quiet 21 e refl) (sym (fact_as (decode table) n reading 21 e))
 
-  pub judges_22 : kind ≡ 22 → Judges (decode table) counts n facts 0 0 a
+  pub judges_22 : kind ≡ 22 → Judges (decode table) counts n facts Never 0 a
   unfolding sourced asked once
-  judges_22 e = plain 0 a (quiet 22 e refl) (sym (fact_as (decode table) n reading 22 e))
+  judges_22 e = plain Never a (quiet 22 e refl) (sym (fact_as (decode table) n reading 22 e))
 
-  pub judges_24 : kind ≡ 24 → Judges (decode table) counts n facts 1 14 c
-  unfolding sourced role_of roles
+  pub judges_24 : kind ≡ 24 → Judges (decode table) counts n facts Always 14 c
+  unfolding sourced roles_of roles
   judges_24 e =
       let p = expression c (c-fits 24 e) in
-      guarded 1 14 c refl p (sym (fact_24 (decode table) n reading e)) (rw (fact_24 (decode table) n reading e) (rule_24 (decode table) n reading e p.sorted))
+      guarded Always 14 c refl p (sym (fact_24 (decode table) n reading e)) (rw (fact_24 (decode table) n reading e) (rule_24 (decode table) n reading e p.sorted))
 
-  pub judges_25 : kind ≡ 25 → Judges (decode table) counts n facts 1 0 a
+  pub judges_25 : kind ≡ 25 → Judges (decode table) counts n facts Always 0 a
   unfolding sourced asked once
-  judges_25 e = plain 1 a (quiet 25 e refl) (sym (fact_as (decode table) n reading 25 e))
+  judges_25 e = plain Always a (quiet 25 e refl) (sym (fact_as (decode table) n reading 25 e))
 
-  pub judges_26 : kind ≡ 26 → Judges (decode table) counts n facts 0 0 a
+  pub judges_26 : kind ≡ 26 → Judges (decode table) counts n facts Never 0 a
   unfolding sourced asked once
-  judges_26 e = plain 0 a (quiet 26 e refl) (sym (fact_as (decode table) n reading 26 e))
+  judges_26 e = plain Never a (quiet 26 e refl) (sym (fact_as (decode table) n reading 26 e))
 
 -- what `settled` answers and keeps, in these terms
 
@@ -275,7 +279,7 @@ some-rule local question n =
     (bool_cases local))
     (bool_cases (eqb question 0))
 
-module _ (program : Program) (v : Visit) (m : Node) (used : Bool) (source question guard : ℕ) (before after : List ℕ) (r : ℕ)
+module _ (program : Program) (v : Visit) (m : Node) (used : Bool) (source : Source) (question guard : ℕ) (before after : List ℕ) (r : ℕ)
     (s : Settled program v m used source question guard before after r) where
   pub settled-used : (r ≡ 0 → ⊥) → used ≡ true
   settled-used h =

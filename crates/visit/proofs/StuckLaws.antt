@@ -2,19 +2,21 @@
 use mathlib.Core.Bool.{true, false}
 use mathlib.Core.List.{List, [], ◌∷◌}
 use mathlib.Core.Logic.{⊎_elim}
-use mathlib.Core.Path.{◌≡◌, sym, ◌∙◌, ap}
+use mathlib.Core.Path.{◌≡◌, refl, sym, ◌∙◌, ap}
 use Prim.Native.Nat.{ℕ, ◌≤◌, ◌<◌}
 use native.Mathlib.Decide.{dec_lt}
 use native.Mathlib.Omega.{arith}
-use lib.Dec.{eqb}
 use lib.ListN.{length}
-use borrow.Author.Tests.{eqb-true, ne_eqb}
+use borrow.Author.Tests.{ne_eqb}
 use Rattle.rules.specs.declared.Node.{Node}
 use Rattle.rules.specs.Table.{Program, procedures, node_at}
 use Rattle.rules.specs.WellFormed.{kind_known, unnamed_zero, node_fits, parts_at}
 use Rattle.rules.proofs.ChoiceLaws.{bool_cases}
+use Rattle.table.specs.declared.fields.Role.{Role}
+use Rattle.table.specs.declared.fields.Role.TheVariants.{Unnamed, Variable, Expression, Statement, Procedure, Half, Area}
+use Rattle.table.specs.declared.fields.Roles.{Roles}
 use Rattle.table.specs.Marks.{bit_at, with_bit, with_bits}
-use Rattle.table.specs.Roles.{digit, is_part, field_zero, field_fits, field_parts}
+use Rattle.table.specs.Roles.{is_part, field_zero, field_fits, field_parts}
 use Rattle.table.proofs.BitLaws.{bit-same, bit-other}
 use Rattle.table.proofs.FittingLaws.{part-below}
 use Rattle.table.proofs.TestLaws.{never, all_three}
@@ -39,7 +41,7 @@ codes-low m best [] = omega arith
 codes-low m best (n ∷ list) = omega (arith, codes-low (with_bit m n) (noted_code m best n) list, noted-low m best n)
 
 -- where no refusal comes of a field, what it names was not marked
-field-clear : (m : List ℕ) (best role value : ℕ) → (is_part role ≡ true → value < 256)
+field-clear : (m : List ℕ) (best : ℕ) (role : Role) (value : ℕ) → (is_part role ≡ true → value < 256)
     → none ≤ repeated_code m best (field_parts role value)
     → Free m role value
 unfolding repeated_code noted_code field_parts
@@ -50,7 +52,7 @@ field-clear m best role value few high part =
     (bool_cases (bit_at m value))
 
 -- what is not marked once a field is noted was not marked, and the field does not name it
-module _ (m : List ℕ) (size : length m ≡ 8) (r x s y : ℕ) (few : is_part r ≡ true → x < 256)
+module _ (m : List ℕ) (size : length m ≡ 8) (r : Role) (x : ℕ) (s : Role) (y : ℕ) (few : is_part r ≡ true → x < 256)
     (free : Free (with_bits m (field_parts r x)) s y) where
   apart : is_part r ≡ true → is_part s ≡ true → y ≡ x → ⊥
   unfolding with_bits field_parts
@@ -78,18 +80,23 @@ module _ (m : List ℕ) (size : length m ≡ 8) (r x s y : ℕ) (few : is_part r
       (λ (e : is_part r ≡ false). simp e)
       (bool_cases (is_part r))
 
+-- a field that fits names a procedure below the limit, where a call may name any
+within-fits : (program : Program) (v : Visit) → v.limit ≡ procedures program → (role : Role) (value : ℕ)
+    → field_fits program v.node role value ≡ true → within v.limit role value ≡ true
+unfolding within field_fits
+within-fits program v all Unnamed value fits = refl
+within-fits program v all Variable value fits = refl
+within-fits program v all Expression value fits = refl
+within-fits program v all Statement value fits = refl
+within-fits program v all Procedure value fits = rw all fits
+within-fits program v all Half value fits = refl
+within-fits program v all Area value fits = refl
+
 -- a field that fits is free if what it names was not marked, where a call may name any procedure
-module _ (program : Program) (marks : List ℕ) (v : Visit) (all : v.limit ≡ procedures program) (role value : ℕ)
+module _ (program : Program) (marks : List ℕ) (v : Visit) (all : v.limit ≡ procedures program) (role : Role) (value : ℕ)
     (zero : field_zero role value ≡ true) (fits : field_fits program v.node role value ≡ true) where
   unbound : within v.limit role value ≡ true
-  unfolding within field_fits
-  unbound =
-      ⊎_elim
-      (λ (e : eqb role 4 ≡ true).
-      let four : role ≡ 4 = eqb-true role 4 e in
-      rw (four, all) (rw four at fits))
-      (λ (e : eqb role 4 ≡ false). simp e)
-      (bool_cases (eqb role 4))
+  unbound = within-fits program v all role value fits
 
   free-field : Free marks role value → field_free program marks v role value ≡ true
   unfolding field_free
@@ -104,17 +111,17 @@ pub stuck-kind : (program : Program) (v : Visit) (before : List ℕ) → v.node 
 unfolding node_best
 stuck-kind program v before few unknown best high = simp unknown (omega arith)
 
-module _ (program : Program) (v : Visit) (m : Node) (here : m ≡ node_at program v.node) (roles : ℕ) (named : Named m.kind roles)
+module _ (program : Program) (v : Visit) (m : Node) (here : m ≡ node_at program v.node) (roles : Roles) (named : Named m.kind roles)
     (before : List ℕ) (size : length before ≡ 8) (few : v.node < 256) (all : v.limit ≡ procedures program)
     (best : ℕ) (high : best ≤ none) where
-  abbrev ra : ℕ
-  ra = digit roles 100
+  abbrev ra : Role
+  ra = roles.a
 
-  abbrev rb : ℕ
-  rb = digit roles 10
+  abbrev rb : Role
+  rb = roles.b
 
-  abbrev rc : ℕ
-  rc = digit roles 1
+  abbrev rc : Role
+  rc = roles.c
 
   -- where nothing of 7 to 9 fails, and nothing of 11
   module _ (zero : unnamed_zero (node_at program v.node) ≡ true) (fits : node_fits program v.node ≡ true)
@@ -129,13 +136,13 @@ module _ (program : Program) (v : Visit) (m : Node) (here : m ≡ node_at progra
     zeros : (field_zero ra m.a ≡ true) × (field_zero rb m.b ≡ true) × (field_zero rc m.c ≡ true)
     zeros = all_three _ _ _ (sym (zero_is program v m here roles named) ∙ zero)
 
-    abbrev Fits : ℕ → ℕ → Type 0
+    abbrev Fits : Role → ℕ → Type 0
     Fits role value = field_fits program v.node role value ≡ true
 
     fit : Fits ra m.a × Fits rb m.b × Fits rc m.c
     fit = all_three _ _ _ (sym (fits-is program v m here roles named) ∙ fits)
 
-    part-few : (role value : ℕ) → field_fits program v.node role value ≡ true → is_part role ≡ true → value < 256
+    part-few : (role : Role) (value : ℕ) → field_fits program v.node role value ≡ true → is_part role ≡ true → value < 256
     part-few role value fit part = omega (arith, part-below program v.node role value fit part)
 
     -- the codes after one, two and three fields

@@ -1,11 +1,13 @@
 -- What the sweep keeps of the nodes for questions 13 to 17, and the refusals by them.
-use Rattle.std.specs.Prelude.{Bool, true, false, cond, not, ◌&&◌, ◌||◌, List, [], ◌∷◌, ◌⊎◌, ◌≡◌, ℕ, ◌%◌, ◌≤◌, ◌<◌, eqb, length, get_or}
+use Rattle.std.specs.Prelude.{Bool, true, false, cond, not, ◌&&◌, ◌||◌, List, ◌⊎◌, ◌≡◌, ℕ, ◌%◌, ◌≤◌, ◌<◌, eqb, length}
 use Rattle.rules.specs.Acceptance.{rule_of, body_flagged}
 use Rattle.rules.specs.Judgement.{single, effect}
 use Rattle.rules.specs.declared.Node.{Node}
 use Rattle.rules.specs.Table.{Program, flagged, effect_flag, node_at, statement_at, Statement, nothing}
 use Rattle.table.specs.Marks.{bit_at, with_bit}
 use Rattle.visit.specs.declared.Visit.{Visit}
+use Rattle.visit.specs.declared.facts.Source.{Source}
+use Rattle.visit.specs.declared.facts.Source.TheVariants.{Never, Always, Unflagged, Flagged, Called, OfA, OfB, OfAOrB, OfBOrC}
 use Rattle.visit.specs.Fields.{used_plane, facts_plane, leaves_plane, all_planes, plane_words}
 use Rattle.visit.specs.Least.{none, code, failure}
 
@@ -56,28 +58,24 @@ module _ (program : Program) (facts : List ℕ) (m : Node) where
   abbrev bit : ℕ → Bool
   bit n = bit_at facts (n % 256)
 
-  unfoldable pub sourced : ℕ → Bool
-  sourced source =
-      get_or
-      (false
-      ∷ true
-      ∷ not (flagged program (m.a % 32))
-      ∷ flagged program (m.a % 32)
-      ∷ effect_flag program m.a
-      ∷ bit m.a
-      ∷ bit m.b
-      ∷ (bit m.a || bit m.b)
-      ∷ [])
-      source
-      (bit m.b || bit m.c)
+  unfoldable pub sourced : Source → Bool
+  sourced Never = false
+  sourced Always = true
+  sourced Unflagged = not (flagged program (m.a % 32))
+  sourced Flagged = flagged program (m.a % 32)
+  sourced Called = effect_flag program m.a
+  sourced OfA = bit m.a
+  sourced OfB = bit m.b
+  sourced OfAOrB = bit m.a || bit m.b
+  sourced OfBOrC = bit m.b || bit m.c
 
 -- the refusal by a rule where there is an effect: its guard is not single. 0 stands for no rule.
 unfoldable pub ruled : Bool → ℕ → ℕ → ℕ
 ruled local question n = cond (eqb question 0) none (cond local (code question n) none)
 
 -- what is kept and answered of a node: nothing where its fields did not pass
-pub record Settled (program : Program) (v : Visit) (m : Node) (used : Bool) (source question guard : ℕ) (before after : List ℕ)
-    (r : ℕ) : Type 0 where
+pub record Settled (program : Program) (v : Visit) (m : Node) (used : Bool) (source : Source) (question guard : ℕ)
+    (before after : List ℕ) (r : ℕ) : Type 0 where
   pub answer : r
       ≡ cond used
       (cond (sourced program (facts_plane before) m source)

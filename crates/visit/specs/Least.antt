@@ -1,8 +1,6 @@
 -- The order of questions as a minimum: a refusal is one number, and the first refusal is the least.
-use Rattle.std.specs.Prelude.{Bool, cond, ℕ, zero, suc, ◌+◌, ◌*◌, ◌/◌, ◌%◌, min, ltb}
-use Rattle.rules.specs.declared.Verdict.{Verdict}
-use Rattle.rules.specs.declared.Verdict.TheVariants.{Accepted, Refused}
-use Rattle.rules.specs.Answers.{refused}
+use Rattle.std.specs.Prelude.{Bool, cond, ℕ, zero, suc, ◌+◌, ◌*◌, ◌/◌, ◌%◌, min, ltb, Ok, Err}
+use Rattle.rules.specs.Answers.{Verdict, Accepted, refused}
 
 -- no refusal: larger than every refusal
 abbrev pub none : ℕ
@@ -21,8 +19,8 @@ least_below codes zero = none
 least_below codes (suc n) = min (least_below codes n) (codes n)
 
 abbrev pub rank : Verdict → ℕ
-rank Accepted = none
-rank (Refused r) = code r.number r.place
+rank (Ok _) = none
+rank (Err r) = code r.number r.place
 
 abbrev pub verdict_of : ℕ → Verdict
 verdict_of best = cond (ltb best none) (refused (best / 65536) (best % 65536)) Accepted

@@ -10,7 +10,7 @@ ghost use Rattle.visit.specs.Fields.{plane_words};
 
 use crate::least::worse;
 use table::Header;
-use table::fields::{A, B, C, is_part, kind_known, node_fits, role, unnamed_zero};
+use table::fields::{Role, is_part, kind_known, node_fits, roles_of, unnamed_zero};
 use table::marks::{mark, marked};
 use table::words::node_at;
 
@@ -26,7 +26,7 @@ pub fn note(marks: &mut [u32], best: usize, n: usize) -> usize
     best
 }
 
-fn note_field(marks: &mut [u32], best: usize, role: u16, value: usize) -> usize
+fn note_field(marks: &mut [u32], best: usize, role: Role, value: usize) -> usize
     requires { (is_part role ≡ true → value < 256) × (length marks.old ≡ plane_words) }
     ensures { (result ≡ repeated_code marks.old best (field_parts role value))
         × (marks.new ≡ with_bits marks.old (field_parts role value)) }
@@ -43,9 +43,10 @@ fn note_parts(table: &[u8], header: Header, marks: &mut [u32], best: usize, n: u
         × (marks.new ≡ with_bits marks.old (parts_at (decode table.now) n)) }
 {
     let node = node_at(table, header, n);
-    let after_a = note_field(marks, best, role(node.kind, A), node.a as usize);
-    let after_b = note_field(marks, after_a, role(node.kind, B), node.b as usize);
-    note_field(marks, after_b, role(node.kind, C), node.c as usize)
+    let roles = roles_of(node.kind);
+    let after_a = note_field(marks, best, roles.a, node.a as usize);
+    let after_b = note_field(marks, after_a, roles.b, node.b as usize);
+    note_field(marks, after_b, roles.c, node.c as usize)
 }
 
 pub fn exact(table: &[u8], header: Header, marks: &mut [u32], best: usize, n: usize) -> usize

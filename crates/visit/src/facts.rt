@@ -3,6 +3,7 @@
 ghost use Rattle.std.specs.Prelude.{true, ◌||◌, ◌≡◌, ◌%◌, ◌<◌, length};
 ghost use Rattle.table.specs.Marks.{bit_at};
 ghost use Rattle.table.specs.Sized.{Sized};
+ghost use Rattle.visit.specs.declared.facts.Source.TheVariants.{Called};
 ghost use Rattle.visit.specs.Facts.{sourced, Settled, ruled};
 ghost use Rattle.visit.specs.Fields.{facts_plane, all_planes};
 ghost use Rattle.rules.specs.Table.{decode};
@@ -14,23 +15,18 @@ use table::marks::{mark, marked};
 use table::words::{effect_flag, flagged};
 
 // Where a node's fact comes from.
-pub const NEVER: u16 = 0;
-
-pub const ALWAYS: u16 = 1;
-
-pub const UNFLAGGED: u16 = 2;
-
-pub const FLAGGED: u16 = 3;
-
-pub const CALLED: u16 = 4;
-
-pub const OF_A: u16 = 5;
-
-pub const OF_B: u16 = 6;
-
-pub const OF_A_OR_B: u16 = 7;
-
-pub const OF_B_OR_C: u16 = 8;
+#[derive(Clone, Copy)]
+pub enum Source {
+    Never,
+    Always,
+    Unflagged,
+    Flagged,
+    Called,
+    OfA,
+    OfB,
+    OfAOrB,
+    OfBOrC,
+}
 
 // The question of a node that is put to none of 13 to 16.
 pub const UNRULED: usize = 0;
@@ -52,20 +48,20 @@ fn either(planes: &[u32], a: u32, b: u32) -> bool
     fact(planes, b)
 }
 
-fn fact_from(table: &[u8], planes: &[u32], visit: Visit, node: Node, source: u16) -> bool
-    requires { Sized table.now visit.header × (length planes.now ≡ all_planes) × (source ≡ 4 → node.a < visit.header.procedures) }
+fn fact_from(table: &[u8], planes: &[u32], visit: Visit, node: Node, source: Source) -> bool
+    requires { Sized table.now visit.header × (length planes.now ≡ all_planes) × (source ≡ Called → node.a < visit.header.procedures) }
     ensures { result ≡ sourced (decode table.now) (facts_plane planes.now) node source }
 {
     match source {
-        0 => false,
-        1 => true,
-        2 => !flagged(table, (node.a % 32) as usize),
-        3 => flagged(table, (node.a % 32) as usize),
-        4 => effect_flag(table, node.a as usize),
-        5 => fact(planes, node.a),
-        6 => fact(planes, node.b),
-        7 => either(planes, node.a, node.b),
-        _ => either(planes, node.b, node.c),
+        Source::Never => false,
+        Source::Always => true,
+        Source::Unflagged => !flagged(table, (node.a % 32) as usize),
+        Source::Flagged => flagged(table, (node.a % 32) as usize),
+        Source::Called => effect_flag(table, node.a as usize),
+        Source::OfA => fact(planes, node.a),
+        Source::OfB => fact(planes, node.b),
+        Source::OfAOrB => either(planes, node.a, node.b),
+        Source::OfBOrC => either(planes, node.b, node.c),
     }
 }
 
@@ -76,12 +72,12 @@ pub fn settled(
     planes: &mut [u32],
     visit: Visit,
     node: Node,
-    source: u16,
+    source: Source,
     question: usize,
     guard: u32,
 ) -> usize
     requires sized { Sized table.now visit.header × (visit.node < visit.header.nodes) × (length planes.old ≡ all_planes) }
-    requires question_bound { (question < 17) × (used ≡ true → source ≡ 4 → node.a < visit.header.procedures) }
+    requires question_bound { (question < 17) × (used ≡ true → source ≡ Called → node.a < visit.header.procedures) }
     ensures { Settled (decode table.now) visit node used source question guard planes.old planes.new result }
 {
     if !used {

@@ -1,26 +1,26 @@
 // The fields of a node at which nothing fails. Nothing is marked until all tests have passed.
 ghost use Rattle.std.specs.Prelude.{true, false, ◌≡◌, ◌<◌, length};
 ghost use Rattle.table.specs.Marks.{with_bits};
-ghost use Rattle.table.specs.Roles.{digit, is_part, field_parts};
+ghost use Rattle.table.specs.Roles.{three, is_part, field_parts};
 ghost use Rattle.table.specs.Sized.{Sized};
 ghost use Rattle.visit.specs.Fields.{within, field_free, distinct, fields_free, Used, Fields, all_planes, plane_words};
 ghost use Rattle.rules.specs.Table.{decode};
 
 use crate::{PLANE, Visit};
 use rules::Node;
-use table::fields::{A, B, C, PROCEDURE, digit, field_fits, field_zero, is_part};
+use table::fields::{Role, field_fits, field_zero, is_part};
 use table::marks::{mark, marked};
 
-fn within(visit: Visit, role: u16, value: usize) -> bool
+fn within(visit: Visit, role: Role, value: usize) -> bool
     ensures { result ≡ within visit.limit role value }
 {
-    if role == PROCEDURE {
-        return value < visit.limit;
+    match role {
+        Role::Procedure => value < visit.limit,
+        _ => true,
     }
-    true
 }
 
-fn field_free(table: &[u8], marks: &[u32], visit: Visit, role: u16, value: u32) -> bool
+fn field_free(table: &[u8], marks: &[u32], visit: Visit, role: Role, value: u32) -> bool
     requires { Sized table.now visit.header × (visit.node < visit.header.nodes) × (length marks.now ≡ plane_words) }
     ensures { result ≡ field_free (decode table.now) marks.now visit role value }
 {
@@ -39,7 +39,7 @@ fn field_free(table: &[u8], marks: &[u32], visit: Visit, role: u16, value: u32) 
     true
 }
 
-fn distinct(r: u16, x: u32, s: u16, y: u32) -> bool
+fn distinct(r: Role, x: u32, s: Role, y: u32) -> bool
     ensures { result ≡ distinct r x s y }
 {
     if !is_part(r) {
@@ -51,29 +51,37 @@ fn distinct(r: u16, x: u32, s: u16, y: u32) -> bool
     x != y
 }
 
-fn fields_free(table: &[u8], marks: &[u32], visit: Visit, node: Node, roles: u16) -> bool
+fn fields_free(
+    table: &[u8],
+    marks: &[u32],
+    visit: Visit,
+    node: Node,
+    a: Role,
+    b: Role,
+    c: Role,
+) -> bool
     requires { Sized table.now visit.header × (visit.node < visit.header.nodes) × (length marks.now ≡ plane_words) }
-    ensures { result ≡ fields_free (decode table.now) marks.now visit node roles }
+    ensures { result ≡ fields_free (decode table.now) marks.now visit node (three a b c) }
 {
-    if !field_free(table, marks, visit, digit(roles, A), node.a) {
+    if !field_free(table, marks, visit, a, node.a) {
         return false;
     }
-    if !field_free(table, marks, visit, digit(roles, B), node.b) {
+    if !field_free(table, marks, visit, b, node.b) {
         return false;
     }
-    if !field_free(table, marks, visit, digit(roles, C), node.c) {
+    if !field_free(table, marks, visit, c, node.c) {
         return false;
     }
-    if !distinct(digit(roles, A), node.a, digit(roles, B), node.b) {
+    if !distinct(a, node.a, b, node.b) {
         return false;
     }
-    if !distinct(digit(roles, A), node.a, digit(roles, C), node.c) {
+    if !distinct(a, node.a, c, node.c) {
         return false;
     }
-    distinct(digit(roles, B), node.b, digit(roles, C), node.c)
+    distinct(b, node.b, c, node.c)
 }
 
-fn take(marks: &mut [u32], role: u16, value: usize)
+fn take(marks: &mut [u32], role: Role, value: usize)
     requires { (is_part role ≡ true → value < 256) × (length marks.old ≡ plane_words) }
     ensures { marks.new ≡ with_bits marks.old (field_parts role value) }
 {
@@ -82,25 +90,41 @@ fn take(marks: &mut [u32], role: u16, value: usize)
     }
 }
 
-fn take_fields(table: &[u8], marks: &mut [u32], visit: Visit, node: Node, roles: u16) -> bool
+fn take_fields(
+    table: &[u8],
+    marks: &mut [u32],
+    visit: Visit,
+    node: Node,
+    a: Role,
+    b: Role,
+    c: Role,
+) -> bool
     requires { Sized table.now visit.header × (visit.node < visit.header.nodes) × (length marks.old ≡ plane_words) }
-    ensures value { result ≡ fields_free (decode table.now) marks.old visit node roles }
-    ensures used { result ≡ true → Used (decode table.now) visit node roles marks.old marks.new }
+    ensures value { result ≡ fields_free (decode table.now) marks.old visit node (three a b c) }
+    ensures used { result ≡ true → Used (decode table.now) visit node (three a b c) marks.old marks.new }
     ensures marks_unchanged { result ≡ false → marks.new ≡ marks.old }
 {
-    if !fields_free(table, marks, visit, node, roles) {
+    if !fields_free(table, marks, visit, node, a, b, c) {
         return false;
     }
-    take(marks, digit(roles, A), node.a as usize);
-    take(marks, digit(roles, B), node.b as usize);
-    take(marks, digit(roles, C), node.c as usize);
+    take(marks, a, node.a as usize);
+    take(marks, b, node.b as usize);
+    take(marks, c, node.c as usize);
     true
 }
 
 // The plane of the nodes used is the first of the planes.
-pub fn fields(table: &[u8], planes: &mut [u32], visit: Visit, node: Node, roles: u16) -> bool
+pub fn fields(
+    table: &[u8],
+    planes: &mut [u32],
+    visit: Visit,
+    node: Node,
+    a: Role,
+    b: Role,
+    c: Role,
+) -> bool
     requires { Sized table.now visit.header × (visit.node < visit.header.nodes) × (length planes.old ≡ all_planes) }
-    ensures { Fields (decode table.now) visit node roles planes.old planes.new result }
+    ensures { Fields (decode table.now) visit node (three a b c) planes.old planes.new result }
 {
-    take_fields(table, &mut planes[0..PLANE], visit, node, roles)
+    take_fields(table, &mut planes[0..PLANE], visit, node, a, b, c)
 }

@@ -35,5 +35,5 @@ pub fn verdict(best: usize) -> Verdict
     if best < NONE {
         return refused((best / 65536) as u32, (best % 65536) as u32);
     }
-    Verdict::Accepted
+    Ok(())
 }

@@ -14,10 +14,7 @@ pub fn put_word(out: &mut [u8], i: usize, word: u32)
     ensures { out.new ≡ sets out.old (4 * i) (word_bytes word) }
 {
     let at = 4 * i;
-    out[at] = (word / 16777216) as u8;
-    out[at + 1] = (word / 65536 % 256) as u8;
-    out[at + 2] = (word / 256 % 256) as u8;
-    out[at + 3] = (word % 256) as u8;
+    out[at..at + 4].copy_from_slice(&word.to_be_bytes());
 }
 
 // So many words of a table, from one of its words on, as the output's words from another on.

@@ -3,13 +3,8 @@ use Rattle.calls.proofs.CallLaws.{calls_of}
 use Rattle.rules.specs.Table.{decode, nodes}
 use Rattle.rules.specs.Choice.{first_failing}
 use lib.ListN.{replicate}
-use Prim.Native.Nat.{◌≤◌, ◌-◌}
 use mathlib.Core.Path.{◌≡◌}
 use Rattle.calls.proofs.first_miscalled.Given as goal
 
 abbrev pub invariant-loop-p : goal.invariant-loop-p
-invariant-loop-p l =
-    (l.p ≤ l.count) × (l.marks ≡ replicate 8 0) × (l.lowest ≡ first_failing (calls_of (decode l.table) l.p) (nodes (decode l.table)))
-
-abbrev pub decreases-loop-p : goal.decreases-loop-p
-decreases-loop-p l = l.count - l.p
+invariant-loop-p l = (l.marks ≡ replicate 8 0) × (l.lowest ≡ first_failing (calls_of (decode l.table) l.p) (nodes (decode l.table)))

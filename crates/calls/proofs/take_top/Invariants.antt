@@ -1,11 +1,7 @@
 -- `take_top` meets its contract. The loop's invariant: the words from k on hold no node.
 use Rattle.calls.specs.Walk.{ClearFrom}
 use mathlib.Core.Path.{◌≡◌}
-use Prim.Native.Nat.{◌≤◌}
 use Rattle.calls.proofs.take_top.Given as goal
 
 abbrev pub invariant-loop-k : goal.invariant-loop-k
-invariant-loop-k l = (l.k ≤ 8) × (l.marks ≡ l.initial.marks) × ClearFrom l.marks l.k
-
-abbrev pub decreases-loop-k : goal.decreases-loop-k
-decreases-loop-k l = l.k
+invariant-loop-k l = (l.marks ≡ l.initial.marks) × ClearFrom l.marks l.k

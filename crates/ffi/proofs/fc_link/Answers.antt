@@ -5,6 +5,6 @@ use Rattle.ffi.proofs.fc_link.Goals as goal
 
 pub returns : goal.returns
 returns c = (
-  c.link_numbers.ensures ∙ ap link_numbers c.link_tables.ensures.0,
+  c.from.ensures ∙ ap link_numbers c.link_tables.ensures.0,
   c.link_tables.ensures.1,
 )

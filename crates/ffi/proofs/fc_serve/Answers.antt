@@ -6,7 +6,7 @@ pub returns : goal.returns
 returns c =
     let end = c.serve.ensures in
     record {
-      answered = c.serve_numbers.ensures ∙ rw (end.made, end.last, end.answered);
+      answered = c.from.ensures ∙ rw (end.made, end.last, end.answered);
       left = end.left;
       written = end.written;
     }

@@ -6,7 +6,7 @@ use Rattle.ffi.proofs.fc_step.Goals as goal
 pub returns : goal.returns
 returns c =
     record {
-      answered = c.step_numbers.ensures ∙ ap step_numbers c.step.ensures.answered;
+      answered = c.from.ensures ∙ ap step_numbers c.step.ensures.answered;
       left = c.step.ensures.left;
       written = c.step.ensures.written;
     }

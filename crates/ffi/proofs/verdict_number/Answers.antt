@@ -1,5 +1,5 @@
 -- `ffi::verdict_number` meets its contract, from those of its callees.
 use Rattle.ffi.proofs.verdict_number.Goals as goal
 
-pub returns-in-Refused : goal.returns-in-Refused
-returns-in-Refused c = simp c.in-Refused.is
+pub returns-in-Err : goal.returns-in-Err
+returns-in-Err c = simp c.in-Err.is

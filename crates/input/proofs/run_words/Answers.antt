@@ -12,8 +12,8 @@ read_words-requires c =
     let input = c.args.input.now in
     let within = taken-within input in
     let few = few_words run_behind input _ c.requires.0 within in (
-      omega (arith, within, c.words_taken-taken.ensures, ap length c.behind.ensures),
-      omega (arith, few, c.words_taken-taken.ensures, c.requires.1),
+      omega (arith, within, c.words_taken.ensures, ap length c.behind.ensures),
+      omega (arith, few, c.words_taken.ensures, c.requires.1),
     )
 
 pub returns : goal.returns
@@ -22,6 +22,6 @@ returns c =
     let input = c.args.input.now in
     let within = taken-within input in
     let few = few_words run_behind input _ c.requires.0 within in (
-      omega (arith, few, c.words_taken-taken.ensures),
-      cc (words-front _ _ _ _ c.read_words.ensures),
+      omega (arith, few, c.words_taken.ensures, c.read_words.ensures.0),
+      cc (words-front _ _ _ _ c.read_words.ensures.1),
     )

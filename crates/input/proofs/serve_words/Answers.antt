@@ -12,7 +12,7 @@ read_words-requires c =
     let input = c.args.input.now in
     let within = exactly_within (behind serve_behind input) in
     let few = few_words serve_behind input _ c.requires.0 within in
-    let count = c.words_exactly-taken.ensures ∙ ap words_exactly c.behind-given.ensures in (
+    let count = c.words_exactly.ensures ∙ ap words_exactly c.behind-given.ensures in (
       omega (arith, within, count, ap length c.behind-given.ensures),
       omega (arith, few, count, c.requires.1),
     )
@@ -23,7 +23,7 @@ returns c =
     let input = c.args.input.now in
     let within = exactly_within (behind serve_behind input) in
     let few = few_words serve_behind input _ c.requires.0 within in
-    let count = c.words_exactly-taken.ensures ∙ ap words_exactly c.behind-given.ensures in (
-      omega (arith, few, count),
-      cc (words-front _ _ _ _ c.read_words.ensures),
+    let count = c.words_exactly.ensures ∙ ap words_exactly c.behind-given.ensures in (
+      omega (arith, few, count, c.read_words.ensures.0),
+      cc (words-front _ _ _ _ c.read_words.ensures.1),
     )

@@ -7,4 +7,4 @@ pub returns : goal.returns
 returns c =
     let size = c.requires.1 in
     joined-put _ _ _ _ _ _ _ _ _ size c.either_holds-held.ensures
-    (rw c.both.ensures at c.left_by-left.ensures) (rw (leaves-lent _ size) at c.mark_if.ensures) c.mark_if-2.ensures
+    (c.left_by-left.ensures) (rw (leaves-lent _ size) at c.mark_if.ensures) c.mark_if-2.ensures

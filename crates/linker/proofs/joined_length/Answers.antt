@@ -9,26 +9,20 @@ use Rattle.linker.proofs.joined_length.Goals as goal
 
 pub both_counts-requires : goal.both_counts-requires
 both_counts-requires c =
-    let formed = both_formed _ _ (sym c.ask-asked.ensures ∙ c.in-Joined.is) in
+    let formed = both_formed _ _ (sym c.ask.ensures ∙ c.in-Ok.is) in
     (counts-there _ formed.0, counts-there _ formed.1)
 
 pub joined_bytes-requires : goal.joined_bytes-requires
-joined_bytes-requires c =
-    let passed = sym c.ask-asked.ensures ∙ c.in-Joined.is in
-    counts-fit (joinable-by passed c.both_counts.ensures)
+joined_bytes-requires c = counts-fit (joinable-by (sym c.ask.ensures ∙ c.in-Ok.is) c.both_counts.ensures)
 
-pub returns-in-Joined : goal.returns-in-Joined
+pub returns-in-Ok : goal.returns-in-Ok
 unfolding joined_length
-returns-in-Joined c =
-    let passed = sym c.ask-asked.ensures ∙ c.in-Joined.is in
+returns-in-Ok c =
+    let passed = sym c.ask.ensures ∙ c.in-Ok.is in
     let given = joinable-by passed c.both_counts.ensures in
     let size = c.joined_bytes.ensures in
     (rw passed (size ∙ bytes-joined given), omega (arith, size, bytes-few given))
 
-pub returns-in-OfLibrary : goal.returns-in-OfLibrary
+pub returns-in-Err : goal.returns-in-Err
 unfolding joined_length
-returns-in-OfLibrary c = (rw (sym c.ask-asked.ensures ∙ c.in-OfLibrary.is), omega arith)
-
-pub returns-in-OfProgram : goal.returns-in-OfProgram
-unfolding joined_length
-returns-in-OfProgram c = (rw (sym c.ask-asked.ensures ∙ c.in-OfProgram.is), omega arith)
+returns-in-Err c = (rw (sym c.ask.ensures ∙ c.in-Err.is), omega arith)

@@ -1,6 +1,6 @@
 -- `has_leave` meets its contract. The nodes passed are no leaves.
 use Rattle.table.proofs.PassingLaws.{readable, header-nodes}
-use Rattle.rules.proofs.ChoiceLaws.{passed_none, passed-more, all_true, all-false}
+use Rattle.rules.proofs.ChoiceLaws.{passed-more, all_true, all-false}
 use Rattle.rules.proofs.KindLaws.{leave_of, no-leave}
 use Rattle.rules.specs.Table.{decode, nodes, node_at, statement_at}
 use native.Mathlib.Omega.{arith}
@@ -9,13 +9,10 @@ use mathlib.Core.Path.{◌≡◌, sym, ◌∙◌}
 use Rattle.loops.proofs.has_leave.Invariants.{stays}
 use Rattle.loops.proofs.has_leave.Goals as goal
 
-pub loop-n-init : goal.loop-n-init
-loop-n-init c = (omega arith, passed_none _)
-
 pub kind_at-requires : goal.kind_at-requires
 kind_at-requires c =
     let built = c.requires in
-    readable built (omega (arith, c.loop-n-test.true, header-nodes built))
+    readable built (omega (arith, header-nodes built))
 
 pub returns-then-kind_at-eq-LEAVE : goal.returns-then-kind_at-eq-LEAVE
 unfolding statement_at
@@ -26,7 +23,7 @@ returns-then-kind_at-eq-LEAVE c =
     let found : stays args.table.now n ≡ false =
     rw (leave_of (node_at (decode args.table.now) n) (sym c.kind_at.ensures ∙ c.if-kind_at-eq-LEAVE.true)) in
     rw (all-false (stays args.table.now) (nodes (decode args.table.now)) n
-    (omega (arith, c.loop-n-test.true, count)) found)
+    (omega (arith, count)) found)
 
 pub loop-n-preserved : goal.loop-n-preserved
 unfolding statement_at
@@ -35,11 +32,11 @@ loop-n-preserved c =
     let n = c.loop-n.n in
     let passes : stays table n ≡ true =
     rw (no-leave (node_at (decode table) n) (λ e. c.if-kind_at-eq-LEAVE.false (c.kind_at.ensures ∙ e))) in
-    (omega (arith, c.loop-n-test.true), passed-more (stays table) n c.loop-n.invariant.1 passes)
+    passed-more (stays table) n c.loop-n.invariant passes
 
 pub returns : goal.returns
 returns c =
     let table = c.args.table.now in
     let end : c.loop-n.n ≡ nodes (decode table) =
-    omega (arith, c.loop-n-test.false, c.loop-n.invariant.0, header-nodes c.requires) in
-    rw (all_true (stays table) (nodes (decode table)) (rw end at c.loop-n.invariant.1))
+    omega (arith, header-nodes c.requires) in
+    rw (all_true (stays table) (nodes (decode table)) (rw end at c.loop-n.invariant))

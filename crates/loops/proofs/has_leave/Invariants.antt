@@ -1,7 +1,7 @@
 -- `has_leave` meets its contract. The nodes passed are no leaves.
 use Rattle.rules.proofs.ChoiceLaws.{Passed}
 use Rattle.rules.specs.Table.{decode, statement_at, is_leave}
-use Prim.Native.Nat.{ℕ, ◌-◌, ◌≤◌}
+use Prim.Native.Nat.{ℕ}
 use mathlib.Core.Bool.{Bool, not}
 use mathlib.Core.List.{List}
 use Rattle.loops.proofs.has_leave.Given as goal
@@ -10,7 +10,4 @@ abbrev pub stays : List ℕ → ℕ → Bool
 stays table n = not (is_leave (statement_at (decode table) n))
 
 abbrev pub invariant-loop-n : goal.invariant-loop-n
-invariant-loop-n l = (l.n ≤ l.nodes) × Passed (stays l.table) l.n
-
-abbrev pub decreases-loop-n : goal.decreases-loop-n
-decreases-loop-n l = l.nodes - l.n
+invariant-loop-n l = Passed (stays l.table) l.n

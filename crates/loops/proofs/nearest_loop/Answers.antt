@@ -5,8 +5,8 @@ use native.Mathlib.Omega.{arith}
 use mathlib.Core.Path.{sym, ◌∙◌}
 use Rattle.loops.proofs.nearest_loop.Goals as goal
 
-pub overflow_add-m : goal.overflow_add-m
-overflow_add-m c = omega (arith, (built-formed c.requires.0).nodes-high)
+pub overflow_step-m : goal.overflow_step-m
+overflow_step-m c = omega (arith, (built-formed c.requires.0).nodes-high)
 
 pub loop-m-init : goal.loop-m-init
 loop-m-init c = climb_start _ (built-formed c.requires.0) _

@@ -1,10 +1,7 @@
 -- After p turns the words are those of the first p records.
-use Rattle.std.proofs.Common.{◌≡◌, ◌-◌, ◌≤◌}
+use Rattle.std.proofs.Common.{◌≡◌}
 use Rattle.records.specs.Roll.{loaded}
 use Rattle.records.proofs.load.Given as goal
 
 abbrev pub invariant-loop-p : goal.invariant-loop-p
-invariant-loop-p l = (l.p ≤ l.count) × (l.words ≡ loaded l.roll l.p)
-
-abbrev pub decreases-loop-p : goal.decreases-loop-p
-decreases-loop-p l = l.count - l.p
+invariant-loop-p l = l.words ≡ loaded l.roll l.p

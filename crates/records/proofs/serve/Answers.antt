@@ -1,10 +1,12 @@
 -- `records::serve` meets its contract: what is said of the words lent is said of the records saved from them.
-use Rattle.records.proofs.Recorded.{through}
+use Rattle.std.proofs.Common.{rules}
+use Rattle.records.proofs.Recorded.{through_words}
 use Rattle.records.proofs.TeamCalls.{serve-call}
 use Rattle.records.proofs.serve.Goals as goal
 
 pub returns : goal.returns
 returns c =
-    rw c.save.ensures
-    (through _ (serve-call c.args.table.now c.args.state.now c.args.last c.args.turns c.serve_words-after.result.answer c.serve_words-after.new.state)
-    c.args.roll.now c.serve_words-after.result.roll (rw c.load-lent.ensures at c.serve_words-after.ensures))
+    let a = c.args in
+    through_words _ _
+    (serve-call a.table.now a.state.now a.last a.turns c.through_words.result c.through_words.new.state)
+    (λ before after gives. search rules) _ _ c.through_words.ensures

@@ -16,15 +16,15 @@ returns-then-not-leaving c =
 pub first_left-requires : goal.first_left-requires
 first_left-requires c =
     let given = c.requires in
-    turned given.0 given.1 c.run-stepped.ensures c.in-Taken.is
+    turned given.0 given.1 c.run-stepped.ensures c.in-Ok.is
 
-pub returns-in-Taken : goal.returns-in-Taken
-returns-in-Taken c =
+pub returns-in-Ok : goal.returns-in-Ok
+returns-in-Ok c =
     let given = c.requires in
     let done = as_taken given.0 given.1 c.run-stepped.ensures in
     record { left = done.left; written = done.written; unfit_is = c.first_left.ensures }
 
-pub returns-in-Refused : goal.returns-in-Refused
-returns-in-Refused c =
+pub returns-in-Err : goal.returns-in-Err
+returns-in-Err c =
     let given = c.requires in
-    absurd (unrefused given.0 given.1 c.run-stepped.ensures c.in-Refused.is)
+    absurd (unrefused given.0 given.1 c.run-stepped.ensures c.in-Err.is)

@@ -1,10 +1,10 @@
 -- `first_call` meets its contract: the lent plane is cleared before the walk, and the other planes stay as they are.
 use mathlib.Core.Path.{refl, ◌∙◌, ap}
 use lib.ListN.{length}
-use borrow.Rule.Slice.PartMut.{mid_of, put_mid}
+use borrow.Rule.Slice.PartMut.{mid_of}
 use Rattle.table.proofs.BitLaws.{cleared}
 use Rattle.visit.specs.Fields.{plane_words}
-use Rattle.visit.proofs.PlaneLaws.{used-length, used_put_used, facts_put_used, leaves_put_used, length_put_used}
+use Rattle.visit.proofs.PlaneLaws.{used-length, used_put_used}
 use Rattle.sweep.proofs.FormedLaws.{fits, none_miscalled}
 use Rattle.sweep.proofs.first_call.Goals as goal
 
@@ -20,20 +20,3 @@ first_miscalled-requires c =
     let words = c.clear.new.marks in
     let zero = cleared words (mid_of 0 plane_words planes) c.clear.ensures (used-length planes size) in
     (fits c.requires.0, used_put_used planes size words (ap length zero) ∙ zero)
-
-pub returns : goal.returns
-returns c =
-    let planes = c.args.planes.now in
-    let size = c.requires.1 in
-    let words = c.clear.new.marks in
-    let many = ap length (cleared words (mid_of 0 plane_words planes) c.clear.ensures (used-length planes size)) in
-    let between = put_mid 0 plane_words planes words in
-    let between-size = length_put_used planes size words many in
-    let left = c.first_miscalled.new.marks in
-    let left-many = ap length c.first_miscalled.ensures.marks_after in
-    record {
-      first = c.first_miscalled.ensures.value;
-      facts = facts_put_used between between-size left left-many ∙ facts_put_used planes size words many;
-      leaves = leaves_put_used between between-size left left-many ∙ leaves_put_used planes size words many;
-      size = length_put_used between between-size left left-many;
-    }

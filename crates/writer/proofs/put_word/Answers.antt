@@ -1,17 +1,29 @@
--- `put_word` meets its contract.
-use mathlib.Core.Path.{refl}
+-- `put_word` meets its contract: the four bytes that the library makes of a word are the word's.
+use Rattle.std.proofs.Common.{◌≡◌, ◌∙◌, ap, ℕ, ◌+◌, ◌*◌, ◌-◌, ◌/◌, ◌^◌, ◌<◌, ◌≤◌, List, length, append_assoc, arith, w32}
+use Rattle.std.proofs.Math.Nat.{mod-eq_of_lt}
+use Rattle.std.specs.Int.{to_be_bytes}
+use Rattle.std.proofs.lemmas.List.{drop-drop}
+use Rattle.std.proofs.lemmas.List.Edits.{sets, sets-eq}
+use borrow.Rule.Slice.PartMut.{put_mid}
 use Rattle.rules.specs.Encoding.{word_bytes}
-use native.Mathlib.Numerals.{unary_clauses}
-use native.Mathlib.Omega.{arith}
-use lib.ListN.{length-set}
 use Rattle.writer.proofs.put_word.Goals as goal
 
-pub bounds-out-at-2 : goal.bounds-out-at-2
-bounds-out-at-2 c = simp length-set (omega arith)
+bytes_of_word : (w : ℕ) → w < 2 ^ 32 → to_be_bytes w32 w ≡ word_bytes w
+unfolding word_bytes
+bytes_of_word w l =
+    let high : w / 16777216 < 256 = omega arith in
+    simp (mod-eq_of_lt high)
 
-pub bounds-out-at-3 : goal.bounds-out-at-3
-bounds-out-at-3 c = simp length-set (omega arith)
+put_sets : (i k : ℕ) (bytes put : List ℕ) → length put ≡ k → i + k ≤ length bytes → put_mid i k bytes put ≡ sets bytes i put
+put_sets i k bytes put size fits =
+    rw (drop-drop, ← size, sets-eq put bytes i (omega arith), append_assoc)
 
 pub returns : goal.returns
-unfolding word_bytes
-returns c = simp unary_clauses refl
+returns c =
+    let at = 4 * c.args.i in
+    let four : at + 4 - at ≡ 4 = omega arith in
+    let put = c.copy_from_slice.new.self in
+    let written : put ≡ word_bytes c.args.word
+    = c.copy_from_slice.ensures.after ∙ c.to_be_bytes.ensures ∙ bytes_of_word c.args.word c.ranges.word.fits in
+    rw (four, put_sets at 4 c.args.out.now put (simp (c.copy_from_slice.ensures.after, c.to_be_bytes.ensures)) (omega arith))
+    (ap (sets c.args.out.now at) written)

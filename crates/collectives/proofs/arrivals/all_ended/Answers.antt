@@ -8,7 +8,7 @@ use Rattle.collectives.proofs.arrivals.all_ended.Invariants.{over}
 use Rattle.collectives.proofs.arrivals.all_ended.Goals as goal
 
 pub loop-p-init : goal.loop-p-init
-loop-p-init c = (omega arith, passed_none _)
+loop-p-init c = passed_none _
 
 pub returns-then-status_at-ne-ENDED : goal.returns-then-status_at-ne-ENDED
 returns-then-status_at-ne-ENDED c =
@@ -17,14 +17,12 @@ returns-then-status_at-ne-ENDED c =
     c.loop-p-test.true (ne_eqb _ _ (λ e. c.if-status_at-ne-ENDED.true (c.status_at.ensures ∙ e))))
 
 pub loop-p-preserved : goal.loop-p-preserved
-loop-p-preserved c = (
-  omega arith,
-  passed-more _ _ c.loop-p.invariant.1
-      (eq-eqb _ _ (sym c.status_at.ensures ∙ c.if-status_at-ne-ENDED.false)),
-)
+loop-p-preserved c =
+    passed-more _ _ c.loop-p.invariant
+    (eq-eqb _ _ (sym c.status_at.ensures ∙ c.if-status_at-ne-ENDED.false))
 
 pub returns : goal.returns
 returns c =
     let args = c.args in
     let end : c.loop-p.p ≡ args.count = omega arith in
-    sym (all_true (over args.roll.now) args.count (rw end at c.loop-p.invariant.1))
+    sym (all_true (over args.roll.now) args.count (rw end at c.loop-p.invariant))

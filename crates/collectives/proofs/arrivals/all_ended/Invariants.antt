@@ -2,7 +2,7 @@
 use Rattle.rules.proofs.ChoiceLaws.{Passed}
 use Rattle.rules.specs.Arrivals.{ended, status_at}
 use lib.Dec.{eqb}
-use Prim.Native.Nat.{ℕ, ◌-◌, ◌≤◌}
+use Prim.Native.Nat.{ℕ}
 use mathlib.Core.List.{List}
 use mathlib.Core.Bool.{Bool}
 use Rattle.collectives.proofs.arrivals.all_ended.Given as goal
@@ -11,7 +11,4 @@ abbrev pub over : List ℕ → ℕ → Bool
 over roll p = eqb (status_at roll p) ended
 
 abbrev pub invariant-loop-p : goal.invariant-loop-p
-invariant-loop-p l = (l.p ≤ l.count) × Passed (over l.roll) l.p
-
-abbrev pub decreases-loop-p : goal.decreases-loop-p
-decreases-loop-p l = l.count - l.p
+invariant-loop-p l = Passed (over l.roll) l.p

@@ -6,7 +6,7 @@ pub returns : goal.returns
 unfolding arrival_at
 returns c =
     simp (
-      c.status_of-status.ensures,
+      c.status_of.ensures,
       c.status_at.ensures,
       c.node_of.ensures,
       c.value_of.ensures,

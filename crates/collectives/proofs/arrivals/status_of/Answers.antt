@@ -1,12 +1,13 @@
 -- `collectives::arrivals::status_of` meets its contract.
-use borrow.Author.Tests.{eq-eqb, ne_eqb}
+use Rattle.std.proofs.Common.{arith}
+use borrow.Author.Tests.{ne_eqb}
 use Rattle.collectives.proofs.arrivals.status_of.Goals as goal
 
-pub returns-then-word-eq-RUNNING : goal.returns-then-word-eq-RUNNING
-returns-then-word-eq-RUNNING c = simp (eq-eqb _ _ c.if-word-eq-RUNNING.true)
+pub returns-in-0 : goal.returns-in-0
+returns-in-0 c = simp c.in-0.is
 
-pub returns-then-word-eq-WAITING : goal.returns-then-word-eq-WAITING
-returns-then-word-eq-WAITING c = simp (ne_eqb _ _ c.if-word-eq-RUNNING.false, eq-eqb _ _ c.if-word-eq-WAITING.true)
+pub returns-in-1 : goal.returns-in-1
+returns-in-1 c = simp c.in-1.is
 
-pub returns-else-word-eq-WAITING : goal.returns-else-word-eq-WAITING
-returns-else-word-eq-WAITING c = simp (ne_eqb _ _ c.if-word-eq-RUNNING.false, ne_eqb _ _ c.if-word-eq-WAITING.false)
+pub returns-in_default : goal.returns-in_default
+returns-in_default c = simp (ne_eqb c.args.word 0 (λ e. omega arith), ne_eqb c.args.word 1 (λ e. omega arith))

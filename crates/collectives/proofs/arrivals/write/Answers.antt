@@ -13,4 +13,4 @@ bounds-roll-at-3 c = simp length-set (omega arith)
 
 pub returns : goal.returns
 unfolding with_arrival
-returns c = simp (towards_suc, c.status_number.ensures)
+returns c = simp (towards_suc, c.from.ensures)

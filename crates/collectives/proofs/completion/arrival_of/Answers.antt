@@ -7,26 +7,26 @@ use native.Mathlib.Omega.{arith}
 use mathlib.Core.Path.{◌∙◌}
 use Rattle.collectives.proofs.completion.arrival_of.Goals as goal
 
-pub returns-then-kind-eq-BARRIER : goal.returns-then-kind-eq-BARRIER
+pub returns-then-node-eq-BARRIER : goal.returns-then-node-eq-BARRIER
 unfolding arrival_of
-returns-then-kind-eq-BARRIER c =
+returns-then-node-eq-BARRIER c =
     let args = c.args in
-    rw (is-barrier args.node c.if-kind-eq-BARRIER.true, ← c.top-n.ensures)
+    rw (is-barrier args.node c.if-node-eq-BARRIER.true, ← c.top-n.ensures)
     (c.arrive.ensures ∙ arrive-running args.arrival _ _ _ c.requires.2)
 
 pub value_at-value-requires : goal.value_at-value-requires
 value_at-value-requires c =
     let given = c.requires in
-    record { given = given.0.given; part = (exchange-fits given.0 c.if-kind-eq-EXCHANGE.true).0 }
+    record { given = given.0.given; part = (exchange-fits given.0 c.if-node-eq-EXCHANGE.true).0 }
 
-pub returns-then-kind-eq-EXCHANGE : goal.returns-then-kind-eq-EXCHANGE
+pub returns-then-node-eq-EXCHANGE : goal.returns-then-node-eq-EXCHANGE
 unfolding arrival_of
-returns-then-kind-eq-EXCHANGE c =
+returns-then-node-eq-EXCHANGE c =
     let top = c.top-n in
     let args = c.args in
     let given = c.requires in
-    rw (is-exchange args.node c.if-kind-eq-EXCHANGE.true, ← top.ensures, ← c.value_at-value.ensures)
-    (c.arrive-then-kind-eq-EXCHANGE.ensures ∙ arrive-running args.arrival _ _ _ given.2)
+    rw (is-exchange args.node c.if-node-eq-EXCHANGE.true, ← top.ensures, ← c.value_at-value.ensures)
+    (c.arrive-then-node-eq-EXCHANGE.ensures ∙ arrive-running args.arrival _ _ _ given.2)
 
 pub value_at-value-requires-2 : goal.value_at-value-requires-2
 value_at-value-requires-2 c =

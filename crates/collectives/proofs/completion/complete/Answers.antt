@@ -23,14 +23,14 @@ still_sized roll count k state₀ state p l sized e =
 
 pub loop-p-init : goal.loop-p-init
 unfolding each_process
-loop-p-init c = (omega arith, refl)
+loop-p-init c = refl
 
 pub slice_bounds-complete_one-end : goal.slice_bounds-complete_one-end
 slice_bounds-complete_one-end c =
     omega (
       arith,
-      still_sized _ _ _ _ _ _ c.loop-p.invariant.0 c.requires.at_collective.1
-          c.loop-p.invariant.1,
+      still_sized _ _ _ _ _ _ (omega arith) c.requires.at_collective.1
+          c.loop-p.invariant,
     )
 
 pub complete_one-requires : goal.complete_one-requires
@@ -46,7 +46,7 @@ complete_one-requires c =
     each_process-kept (taken roll count k) args.state.now count (taken_keeps roll count k) given.at_collective.1
     p p (omega arith) c.loop-p-test.true in (
       given.at_collective.0,
-      rw (lent loop.state p, loop.invariant.1, kept) (given.by_index p c.loop-p-test.true),
+      rw (lent loop.state p, loop.invariant, kept) (given.by_index p c.loop-p-test.true),
       c.loop-p-test.true,
     )
 
@@ -61,23 +61,21 @@ loop-p-preserved c =
     let k = collective_of args.node in
     let p = loop.p in
     let state = loop.state in
-    let next : p + 1 ≡ suc p = add-one p in (
-      omega arith,
-      rw (next, ← loop.invariant.1)
-          (back state complete-one.new.words p
-          ∙ ap (with_process state p) (complete-one.ensures ∙ ap (taken roll count k p) (lent state p))),
-    )
+    let next : p + 1 ≡ suc p = add-one p in
+    rw (next, ← loop.invariant)
+    (back state complete-one.new.words p
+    ∙ ap (with_process state p) (complete-one.ensures ∙ ap (taken roll count k p) (lent state p)))
 
 pub shape_of-state : goal.shape_of-state
 shape_of-state c =
-    ap length c.loop-p.invariant.1
+    ap length c.loop-p.invariant
     ∙ each_process-length _ _ c.args.count (taken_keeps _ _ _)
-    c.requires.at_collective.1 _ c.loop-p.invariant.0
+    c.requires.at_collective.1 _ (omega arith)
 
 pub returns : goal.returns
 unfolding completed_state
 returns c =
     let args = c.args in
     let end : c.loop-p.p ≡ args.count = omega arith in
-    c.loop-p.invariant.1
+    c.loop-p.invariant
     ∙ ap (λ n. each_process (taken args.roll.now args.count (collective_of args.node)) n args.state.now) end

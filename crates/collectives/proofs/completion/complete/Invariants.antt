@@ -3,13 +3,9 @@
 use Rattle.collectives.specs.Given.{collective_of}
 use Rattle.rules.proofs.CollectiveLaws.{taken}
 use Rattle.rules.specs.Process.{each_process}
-use Prim.Native.Nat.{◌-◌, ◌≤◌}
 use mathlib.Core.Path.{◌≡◌}
 use Rattle.collectives.proofs.completion.complete.Given as goal
 
 abbrev pub invariant-loop-p : goal.invariant-loop-p
 invariant-loop-p l =
-    (l.p ≤ l.count) × (l.state ≡ each_process (taken l.roll l.count (collective_of l.node)) l.p l.initial.state)
-
-abbrev pub decreases-loop-p : goal.decreases-loop-p
-decreases-loop-p l = l.count - l.p
+    (l.state ≡ each_process (taken l.roll l.count (collective_of l.node)) l.p l.initial.state)

@@ -10,7 +10,7 @@ use Rattle.collectives.proofs.completion.gather.Goals as goal
 
 pub loop-i-init : goal.loop-i-init
 unfolding gathered_from
-loop-i-init c = (omega arith, refl)
+loop-i-init c = refl
 
 pub slot_at-at-requires : goal.slot_at-at-requires
 slot_at-at-requires c = (omega arith, omega arith)
@@ -19,19 +19,19 @@ pub bounds-words-at : goal.bounds-words-at
 bounds-words-at c =
     let loop = c.loop-i in
     let args = c.args in
-    omega (arith, ap length loop.invariant.1, gathered-length args.roll.now args.area loop.i args.words.now)
+    omega (arith, ap length loop.invariant, gathered-length args.roll.now args.area loop.i args.words.now)
 
 pub loop-i-preserved : goal.loop-i-preserved
 unfolding gathered_from
 loop-i-preserved c =
     let loop = c.loop-i in
     let next : loop.i + 1 ≡ suc loop.i = add-one _ in
-    (omega arith, rw (next, ← loop.invariant.1, c.value_of.ensures, c.slot_at-at.ensures))
+    rw (next, ← loop.invariant, c.value_of.ensures, c.slot_at-at.ensures)
 
 pub shape_of-words : goal.shape_of-words
-shape_of-words c = ap length c.loop-i.invariant.1 ∙ gathered-length _ _ _ _
+shape_of-words c = ap length c.loop-i.invariant ∙ gathered-length _ _ _ _
 
 pub returns : goal.returns
 returns c =
     let end : c.loop-i.i ≡ c.args.count = omega arith in
-    rw (← end) c.loop-i.invariant.1
+    rw (← end) c.loop-i.invariant

@@ -8,29 +8,29 @@ use Rattle.collectives.proofs.completion.receive.Goals as goal
 pub gather-requires : goal.gather-requires
 gather-requires c =
     let given = c.requires in
-    (given.1, given.0.rolled, given.0.few, given.0.filled c.if-kind-eq-EXCHANGE.true)
+    (given.1, given.0.rolled, given.0.few, given.0.filled c.in-25.is)
 
-pub returns-then-kind-eq-EXCHANGE : goal.returns-then-kind-eq-EXCHANGE
+pub returns-in-25 : goal.returns-in-25
 unfolding received
-returns-then-kind-eq-EXCHANGE c =
+returns-in-25 c =
     let args = c.args in
-    rw (is-exchange args.node c.if-kind-eq-EXCHANGE.true) c.gather.ensures
+    rw (is-exchange args.node c.in-25.is) c.gather.ensures
 
-pub bounds-words-a : goal.bounds-words-a
-bounds-words-a c =
+pub bounds-words-node : goal.bounds-words-node
+bounds-words-node c =
     let given = c.requires in
-    omega (arith, given.0.stored c.if-kind-eq-BROADCAST.true)
+    omega (arith, given.0.stored c.in-24.is)
 
-pub returns-then-kind-eq-BROADCAST : goal.returns-then-kind-eq-BROADCAST
+pub returns-in-24 : goal.returns-in-24
 unfolding received
-returns-then-kind-eq-BROADCAST c =
+returns-in-24 c =
     let args = c.args in
     rw (
-      is-broadcast args.node c.if-kind-eq-BROADCAST.true,
+      is-broadcast args.node c.in-24.is,
       c.sent_by.ensures,
       c.source_of-source.ensures,
     )
 
-pub returns-else-kind-eq-BROADCAST : goal.returns-else-kind-eq-BROADCAST
+pub returns-in_default : goal.returns-in_default
 unfolding received
-returns-else-kind-eq-BROADCAST c = rw (is-barrier c.args.node (omega (arith, collective_range c.args.node.kind c.requires.0.meets)))
+returns-in_default c = rw (is-barrier c.args.node (omega (arith, collective_range c.args.node.kind c.requires.0.meets)))

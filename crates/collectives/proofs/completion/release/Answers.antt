@@ -14,14 +14,14 @@ use Rattle.collectives.proofs.completion.release.Goals as goal
 
 pub loop-p-init : goal.loop-p-init
 unfolding each_arrival
-loop-p-init c = (omega arith, refl)
+loop-p-init c = refl
 
 pub release_one-requires : goal.release_one-requires
 release_one-requires c =
     let loop = c.loop-p in
     let args = c.args in
     let given = c.requires in
-    let now = loop.invariant.1 in
+    let now = loop.invariant in
     let sized = ap length now ∙ each_arrival-length (released args.state.now) loop.p args.roll.now in
     let kept = each_arrival-kept (released args.state.now) loop.p args.roll.now loop.p (omega arith) in (
       omega arith,
@@ -34,13 +34,13 @@ loop-p-preserved c =
     let loop = c.loop-p in
     let next : loop.p + 1 ≡ suc loop.p = add-one _ in
     let state = c.args.state.now in
-    (omega arith, rw (next, depth_in state loop.p, ← loop.invariant.1) c.release_one.ensures)
+    rw (next, depth_in state loop.p, ← loop.invariant) c.release_one.ensures
 
 pub shape_of-roll : goal.shape_of-roll
-shape_of-roll c = ap length c.loop-p.invariant.1 ∙ each_arrival-length _ _ _
+shape_of-roll c = ap length c.loop-p.invariant ∙ each_arrival-length _ _ _
 
 pub returns : goal.returns
 unfolding released_roll
 returns c =
     let end : c.loop-p.p ≡ c.args.count = omega arith in
-    rw (← end) c.loop-p.invariant.1
+    rw (← end) c.loop-p.invariant

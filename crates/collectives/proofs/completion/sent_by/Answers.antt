@@ -6,5 +6,5 @@ use Rattle.collectives.proofs.completion.sent_by.Goals as goal
 pub returns-then-source-count : goal.returns-then-source-count
 returns-then-source-count c = search (rules, lt-ltb)
 
-pub returns : goal.returns
-returns c = search (rules, le-ltb)
+pub returns-else-source-count : goal.returns-else-source-count
+returns-else-source-count c = search (rules, le-ltb)

@@ -4,11 +4,8 @@ use native.Mathlib.Omega.{arith}
 use Rattle.table.proofs.PassingLaws.{header-nodes}
 use Rattle.rules.specs.Table.{decode, nodes}
 use Rattle.rules.specs.WellFormed.{leave_enclosed}
-use Rattle.rules.proofs.ChoiceLaws.{passed_none, passed-more, first-at, first-none}
+use Rattle.rules.proofs.ChoiceLaws.{first-at, first-none}
 use Rattle.leaves.proofs.loose.first_open.Goals as goal
-
-pub loop-n-init : goal.loop-n-init
-loop-n-init c = (omega arith, passed_none _)
 
 pub enclosed-requires : goal.enclosed-requires
 enclosed-requires c = let given = c.requires in (given, omega (arith, header-nodes given))
@@ -16,18 +13,10 @@ enclosed-requires c = let given = c.requires in (given, omega (arith, header-nod
 pub returns-then-not-enclosed : goal.returns-then-not-enclosed
 returns-then-not-enclosed c =
     let loop = c.loop-n in
-    sym (first-at (leave_enclosed (decode c.args.table.now)) _ loop.n (omega (arith, header-nodes c.requires)) loop.invariant.1
+    sym (first-at (leave_enclosed (decode c.args.table.now)) _ loop.n (omega (arith, header-nodes c.requires)) loop.invariant
     (sym c.enclosed.ensures ∙ c.if-not-enclosed.true))
-
-pub loop-n-preserved : goal.loop-n-preserved
-loop-n-preserved c =
-    let loop = c.loop-n in (
-      omega arith,
-      passed-more (leave_enclosed (decode c.args.table.now)) loop.n loop.invariant.1
-          (sym c.enclosed.ensures ∙ c.if-not-enclosed.false),
-    )
 
 pub returns : goal.returns
 returns c =
     let all : c.loop-n.n ≡ nodes (decode c.args.table.now) = omega (arith, header-nodes c.requires) in
-    header-nodes c.requires ∙ sym (first-none _ _ (rw all at c.loop-n.invariant.1))
+    header-nodes c.requires ∙ sym (first-none _ _ (rw all at c.loop-n.invariant))

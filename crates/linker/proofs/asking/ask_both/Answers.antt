@@ -20,20 +20,20 @@ first_disagreeing-variable-requires c =
     let program = read-sized c.requires.of_program in (
       omega (arith, library.size),
       omega (arith, program.size),
-      omega (arith, c.lesser-shared.ensures, library.variables-read, library.variables-high),
+      omega (arith, c.min-shared.ensures, library.variables-read, library.variables-high),
     )
 
 pub overflow_cast-variable : goal.overflow_cast-variable
 overflow_cast-variable c =
     let library = read-sized c.requires.of_library in
-    omega (arith, c.lesser-shared.ensures, library.variables-read, library.variables-high)
+    omega (arith, c.min-shared.ensures, library.variables-read, library.variables-high)
 
 pub returns-then-variable-shared : goal.returns-then-variable-shared
 returns-then-variable-shared c =
     let given = c.requires in
     rw (
       linking given _ c.first_unlinked-procedure.ensures c.if-procedure-both.false,
-      disagreeing given _ _ c.lesser-shared.ensures c.first_disagreeing-variable.ensures c.if-variable-shared.true,
+      disagreeing given _ _ c.min-shared.ensures c.first_disagreeing-variable.ensures c.if-variable-shared.true,
     )
     c.refused-then-variable-shared.ensures
 
@@ -53,7 +53,7 @@ returns-then-both c =
     let given = c.requires in
     rw (
       linking given _ c.first_unlinked-procedure.ensures c.if-procedure-both.false,
-      agreeing given _ _ c.lesser-shared.ensures c.first_disagreeing-variable.ensures c.if-variable-shared.false,
+      agreeing given _ _ c.min-shared.ensures c.first_disagreeing-variable.ensures c.if-variable-shared.false,
       many given c.if-both.true,
     )
     c.refused-then-both.ensures
@@ -63,6 +63,6 @@ returns c =
     let given = c.requires in
     rw (
       linking given _ c.first_unlinked-procedure.ensures c.if-procedure-both.false,
-      agreeing given _ _ c.lesser-shared.ensures c.first_disagreeing-variable.ensures c.if-variable-shared.false,
+      agreeing given _ _ c.min-shared.ensures c.first_disagreeing-variable.ensures c.if-variable-shared.false,
       few given c.if-both.false,
     )

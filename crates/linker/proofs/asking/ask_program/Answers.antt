@@ -1,20 +1,20 @@
 -- `asking::ask_program` meets its contract.
 use mathlib.Core.Path.{sym, ◌∙◌}
+use Rattle.std.proofs.lemmas.Result.{err_from_is_err_and}
 use Rattle.linker.proofs.PairLaws.{counts-there, pair_of}
 use Rattle.linker.proofs.asking.ask_program.Goals as goal
 
 pub both_counts-requires : goal.both_counts-requires
 both_counts-requires c =
-    let formed = sym c.ask_alone-formed.ensures ∙ c.in-Accepted.is in
-    (counts-there _ c.requires, counts-there _ formed)
+    (counts-there _ c.requires, counts-there _ (sym c.ask_alone.ensures ∙ c.in_ok-ask_alone.was))
 
 pub ask_both-requires : goal.ask_both-requires
-ask_both-requires c =
-    let formed = sym c.ask_alone-formed.ensures ∙ c.in-Accepted.is in
-    pair_of c.requires formed c.both_counts.ensures
+ask_both-requires c = pair_of c.requires (sym c.ask_alone.ensures ∙ c.in_ok-ask_alone.was) c.both_counts.ensures
 
-pub returns-in-Refused : goal.returns-in-Refused
-returns-in-Refused c = rw (sym c.ask_alone-formed.ensures ∙ c.in-Refused.is) c.in-Refused.is
+pub returns-in_err-ask_alone : goal.returns-in_err-ask_alone
+returns-in_err-ask_alone c =
+    let p = err_from_is_err_and c.from_residual.result c.from_residual.ensures.1 in
+    rw (p.1, p.2, sym c.ask_alone.ensures ∙ c.in_err-ask_alone.was)
 
-pub returns-in-Accepted : goal.returns-in-Accepted
-returns-in-Accepted c = rw (sym c.ask_alone-formed.ensures ∙ c.in-Accepted.is) c.ask_both.ensures
+pub returns : goal.returns
+returns c = rw (sym c.ask_alone.ensures ∙ c.in_ok-ask_alone.was) c.ask_both.ensures

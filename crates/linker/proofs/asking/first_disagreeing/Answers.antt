@@ -4,12 +4,9 @@ use mathlib.Core.Path.{◌≡◌, sym}
 use native.Mathlib.Omega.{arith}
 use borrow.Author.Tests.{not-true, not-false}
 use Rattle.linker.specs.Linking.{flags_agree}
-use Rattle.rules.proofs.ChoiceLaws.{passed_none, passed-more, first-none, first-at}
+use Rattle.rules.proofs.ChoiceLaws.{passed-more, first-none, first-at}
 use Rattle.rules.specs.Table.{decode}
 use Rattle.linker.proofs.asking.first_disagreeing.Goals as goal
-
-pub loop-v-init : goal.loop-v-init
-loop-v-init c = (omega arith, passed_none _)
 
 pub returns-then-flagged : goal.returns-then-flagged
 unfolding flags_agree
@@ -19,7 +16,7 @@ returns-then-flagged c =
     let agree = flags_agree (decode args.library.now) (decode args.program.now) in
     let differ : agree loop.v ≡ false =
     rw (← c.flagged.ensures, ← c.flagged-in-loop-v.ensures) (not-true _ c.if-flagged.true) in
-    sym (first-at agree _ loop.v (omega arith) loop.invariant.1 differ)
+    sym (first-at agree _ loop.v (omega arith) loop.invariant differ)
 
 pub loop-v-preserved : goal.loop-v-preserved
 unfolding flags_agree
@@ -29,10 +26,10 @@ loop-v-preserved c =
     let agree = flags_agree (decode args.library.now) (decode args.program.now) in
     let same : agree loop.v ≡ true =
     rw (← c.flagged.ensures, ← c.flagged-in-loop-v.ensures) (not-false _ c.if-flagged.false) in
-    (omega arith, passed-more agree loop.v loop.invariant.1 same)
+    passed-more agree loop.v loop.invariant same
 
 pub returns : goal.returns
 returns c =
     let count = c.args.count in
     let all : c.loop-v.v ≡ count = omega arith in
-    sym (first-none _ count (rw all at c.loop-v.invariant.1))
+    sym (first-none _ count (rw all at c.loop-v.invariant))

@@ -3,7 +3,7 @@ use mathlib.Core.Path.{◌≡◌, sym, ◌∙◌, ap}
 use Prim.Native.Nat.{◌+◌}
 use native.Mathlib.Omega.{arith}
 use Rattle.linker.specs.Linking.{procedure_links}
-use Rattle.rules.proofs.ChoiceLaws.{passed_none, passed-more, first-none, first-at}
+use Rattle.rules.proofs.ChoiceLaws.{first-none, first-at}
 use Rattle.rules.specs.Table.{decode, procedures}
 use Rattle.table.proofs.PassingLaws.{header-procedures, read-sized}
 use Rattle.linker.proofs.asking.first_unlinked.Goals as goal
@@ -13,34 +13,15 @@ overflow_add-count c =
     let library = read-sized c.requires.of_library in
     omega (arith, library.procedures-read, library.procedures-high)
 
-pub loop-p-init : goal.loop-p-init
-loop-p-init c = (omega arith, passed_none _)
-
-pub procedure_links-requires : goal.procedure_links-requires
-procedure_links-requires c = c.requires
-
 pub returns-then-not-procedure_links : goal.returns-then-not-procedure_links
 returns-then-not-procedure_links c =
     let loop = c.loop-p in
     sym (first-at (procedure_links (decode c.args.library.now) (decode c.args.program.now)) _ loop.p
-    (omega (arith, header-procedures c.requires.of_library)) loop.invariant.1
+    (omega (arith, header-procedures c.requires.of_library)) loop.invariant
     (sym c.procedure_links.ensures ∙ c.if-not-procedure_links.true))
-
-pub overflow_step-p : goal.overflow_step-p
-overflow_step-p c =
-    let library = read-sized c.requires.of_library in
-    omega (arith, library.procedures-read, library.procedures-high)
-
-pub loop-p-preserved : goal.loop-p-preserved
-loop-p-preserved c =
-    let loop = c.loop-p in (
-      omega arith,
-      passed-more (procedure_links (decode c.args.library.now) (decode c.args.program.now)) loop.p loop.invariant.1
-          (sym c.procedure_links.ensures ∙ c.if-not-procedure_links.false),
-    )
 
 pub returns : goal.returns
 returns c =
     let read = header-procedures c.requires.of_library in
     let all : c.loop-p.p ≡ 1 + procedures (decode c.args.library.now) = omega (arith, read) in
-    ap (λ n. 1 + n) read ∙ sym (first-none _ _ (rw all at c.loop-p.invariant.1))
+    ap (λ n. 1 + n) read ∙ sym (first-none _ _ (rw all at c.loop-p.invariant))

@@ -1,7 +1,6 @@
 -- `writing::write_bodies` meets its contract. The loop's invariant: the words passed are written.
 use mathlib.Core.Path.{◌≡◌}
-use Prim.Native.Nat.{◌-◌, ◌*◌, ◌≤◌}
-use lib.ListN.{length}
+use Prim.Native.Nat.{◌*◌}
 use lib.Seq.{sets}
 use Rattle.linker.specs.Given.{moved_procedure}
 use Rattle.rules.specs.Encoding.{word_bytes}
@@ -10,8 +9,4 @@ use Rattle.linker.proofs.writing.write_bodies.Given as goal
 
 abbrev pub invariant-loop-k : goal.invariant-loop-k
 invariant-loop-k l =
-    (l.k ≤ l.count) × (length l.out ≡ length l.initial.out)
-    × (l.out ≡ sets l.initial.out (4 * l.first) (joined (λ i. word_bytes (moved_procedure l.both l.program i)) l.k))
-
-abbrev pub decreases-loop-k : goal.decreases-loop-k
-decreases-loop-k l = l.count - l.k
+    l.out ≡ sets l.initial.out (4 * l.first) (joined (λ i. word_bytes (moved_procedure l.both l.program i)) l.k)

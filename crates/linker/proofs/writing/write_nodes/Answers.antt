@@ -1,9 +1,6 @@
 -- `writing::write_nodes` meets its contract. The loop's invariant: the words passed are written.
-use mathlib.Core.Path.{◌≡◌, refl, sym, ◌∙◌, ap, subst}
-use Prim.Native.Nat.{◌-◌}
+use mathlib.Core.Path.{refl, sym, ◌∙◌, ap, subst}
 use native.Mathlib.Omega.{arith}
-use lib.ListN.{length}
-use lib.Seq.{length-sets}
 use Rattle.linker.specs.Given.{moved_word, Movable, part_units, node_behind, moved_node}
 use Rattle.linker.proofs.WordLaws.{units, read-packed, read-kind, read-units}
 use Rattle.rules.specs.WellFormed.{joined}
@@ -12,10 +9,7 @@ use Rattle.linker.proofs.writing.write_nodes.Goals as goal
 
 pub loop-k-init : goal.loop-k-init
 unfolding joined
-loop-k-init c = (omega arith, refl, refl)
-
-pub offset_bounds-parts-kind_of : goal.offset_bounds-parts-kind_of
-offset_bounds-parts-kind_of c = omega (arith, read-kind _ _ _ c.packed_at-node.ensures c.kind_of.ensures (omega arith))
+loop-k-init c = refl
 
 pub bounds-parts-kind_of : goal.bounds-parts-kind_of
 bounds-parts-kind_of c = read-kind _ _ _ c.packed_at-node.ensures c.kind_of.ensures (omega arith)
@@ -39,20 +33,8 @@ loop-k-preserved c =
     let args = c.args in
     let put = c.put_word.ensures in
     let is = c.packed_at-node.ensures in
-    let kind = c.kind_of.ensures in (
-      omega arith,
-      ap length put ∙ simp length-sets loop.invariant.1,
-      word_more (λ i. moved_node args.both (node_behind args.both args.program.now i)) args.out.now _ loop.k _ _ _
-          loop.invariant.2 put
-          (c.moved.ensures
-          ∙ (ap (λ one. moved_word args.both one c.packed_at-node.result)
-          (read-units _ _ _ is kind)
-          ∙ ap (moved_word args.both (part_units (node_behind args.both args.program.now loop.k)))
-          (read-packed _ _ _ is kind))),
-    )
-
-pub returns : goal.returns
-returns c =
-    let args = c.args in
-    let e : c.loop-k.k ≡ args.both.program.nodes - args.both.library.procedures = omega arith in
-    rw (← e) c.loop-k.invariant.2
+    let kind = c.kind_of.ensures in
+    word_more (λ i. moved_node args.both (node_behind args.both args.program.now i)) args.out.now _ loop.k _ _ _ loop.invariant put
+    (c.moved.ensures
+    ∙ (ap (λ one. moved_word args.both one c.packed_at-node.result) (read-units _ _ _ is kind)
+    ∙ ap (moved_word args.both (part_units (node_behind args.both args.program.now loop.k))) (read-packed _ _ _ is kind)))

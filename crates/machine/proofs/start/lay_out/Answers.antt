@@ -7,17 +7,16 @@ use mathlib.Core.Path.{◌≡◌, sym, ◌∙◌}
 use Rattle.machine.proofs.start.lay_out.Goals as goal
 
 pub loop-i-init : goal.loop-i-init
-loop-i-init c = (omega arith, c.requires.0, λ k l. absurd (omega arith))
+loop-i-init c = (c.requires.0, λ k l. absurd (omega arith))
 
 pub loop-i-preserved : goal.loop-i-preserved
 loop-i-preserved c =
     let loop = c.loop-i in
     let words = loop.words in
     let i = loop.i in (
-      omega arith,
-      length-set words i c.laid_word.result ∙ loop.invariant.1,
+      length-set words i c.laid_word.result ∙ loop.invariant.0,
       λ k l. elim (dec_lt k i) [
-        | yes b ↦ get_or-set_other words i k c.laid_word.result 0 (λ e. omega arith) ∙ loop.invariant.2 k b
+        | yes b ↦ get_or-set_other words i k c.laid_word.result 0 (λ e. omega arith) ∙ loop.invariant.1 k b
         | no b ↦
             let e : k ≡ i = omega arith in
             rw e (get_or-set_same words i c.laid_word.result 0 (omega arith) ∙ c.laid_word.ensures)
@@ -25,7 +24,7 @@ loop-i-preserved c =
     )
 
 pub shape_of-words : goal.shape_of-words
-shape_of-words c = c.loop-i.invariant.1 ∙ sym c.requires.0
+shape_of-words c = c.loop-i.invariant.0 ∙ sym c.requires.0
 
 pub returns : goal.returns
-returns c = λ i l. c.loop-i.invariant.2 i (omega arith)
+returns c = λ i l. c.loop-i.invariant.1 i (omega arith)

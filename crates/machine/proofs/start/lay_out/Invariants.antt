@@ -2,13 +2,10 @@
 use Rattle.machine.specs.Layout.{laid_word}
 use Rattle.rules.specs.Process.{process_words}
 use lib.ListN.{length, get_or}
-use Prim.Native.Nat.{ℕ, ◌-◌, ◌<◌, ◌≤◌}
+use Prim.Native.Nat.{ℕ, ◌<◌}
 use mathlib.Core.Path.{◌≡◌}
 use Rattle.machine.proofs.start.lay_out.Given as goal
 
 abbrev pub invariant-loop-i : goal.invariant-loop-i
 invariant-loop-i l =
-    (l.i ≤ process_words) × (length l.words ≡ process_words) × ((k : ℕ) → k < l.i → get_or l.words k 0 ≡ laid_word l.variables l.entry l.given k)
-
-abbrev pub decreases-loop-i : goal.decreases-loop-i
-decreases-loop-i l = process_words - l.i
+    (length l.words ≡ process_words) × ((k : ℕ) → k < l.i → get_or l.words k 0 ≡ laid_word l.variables l.entry l.given k)

@@ -11,13 +11,13 @@ use Rattle.machine.proofs.start.start_roll.Goals as goal
 
 pub loop-p-init : goal.loop-p-init
 unfolding each_arrival
-loop-p-init c = (omega arith, refl)
+loop-p-init c = refl
 
 pub write-requires : goal.write-requires
 write-requires c =
     let loop = c.loop-p in
     let sized =
-    ap length loop.invariant.1
+    ap length loop.invariant
     ∙ each_arrival-length (λ q. running_record) loop.p c.args.roll.now in
     omega arith
 
@@ -26,13 +26,13 @@ unfolding each_arrival
 loop-p-preserved c =
     let loop = c.loop-p in
     let next : loop.p + 1 ≡ suc loop.p = add-one _ in
-    (omega arith, rw (next, ← loop.invariant.1) c.write.ensures)
+    rw (next, ← loop.invariant) c.write.ensures
 
 pub shape_of-roll : goal.shape_of-roll
-shape_of-roll c = ap length c.loop-p.invariant.1 ∙ each_arrival-length (λ q. running_record) _ _
+shape_of-roll c = ap length c.loop-p.invariant ∙ each_arrival-length (λ q. running_record) _ _
 
 pub returns : goal.returns
 unfolding start_roll
 returns c =
     let end : c.loop-p.p ≡ c.args.count = omega arith in
-    rw (← end) c.loop-p.invariant.1
+    rw (← end) c.loop-p.invariant

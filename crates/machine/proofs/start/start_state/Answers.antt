@@ -14,7 +14,7 @@ use Rattle.rules.specs.Process.{process_words, each_process, with_process}
 use lib.ListN.{length, take, drop}
 use native.Mathlib.Numerals.{add-one}
 use native.Mathlib.Omega.{arith}
-use Prim.Native.Nat.{ℕ, suc, ◌+◌, ◌-◌, ◌*◌}
+use Prim.Native.Nat.{ℕ, suc, ◌+◌, ◌-◌, ◌*◌, ◌≤◌}
 use mathlib.Core.Path.{◌≡◌, refl, sym, ◌∙◌, ap}
 use mathlib.Core.List.{List}
 use Rattle.machine.proofs.start.start_state.Invariants.{Laying, laid_for}
@@ -28,11 +28,11 @@ laid_keeps {table} {count} {words} s q earlier l h =
     ).sized
 
 still_sized : {table : List ℕ} {count : ℕ} {words state₀ : List ℕ} {v entry : ℕ} {state : List ℕ} {p : ℕ}
-    → Startable table count words state₀ → Laying table count words state₀ v entry state p
+    → Startable table count words state₀ → p ≤ count → Laying table words state₀ v entry state p
     → length state ≡ process_words * count
-still_sized {table} {count} {words} {state₀} {p = p} s i =
+still_sized {table} {count} {words} {state₀} {p = p} s within i =
     ap length i.reached
-    ∙ each_below-length (laid_for table words) state₀ count (laid_keeps s) s.stated p i.within
+    ∙ each_below-length (laid_for table words) state₀ count (laid_keeps s) s.stated p within
     ∙ s.stated
 
 given_is : (table words : List ℕ) (p : ℕ) {v : ℕ} {given : List ℕ} → v ≡ Table.variables (decode table)
@@ -76,7 +76,6 @@ unfolding header_of each_process main_body
 loop-p-init c =
     let header = c.header-head in
     record {
-      within = omega arith;
       counted = ap (λ h. h.variables) header.ensures;
       entered = c.body-entry.ensures ∙ ap (λ h. body (decode c.args.table.now) (h.procedures - 1)) header.ensures;
       reached = refl;
@@ -92,7 +91,7 @@ given_to-given-requires c =
     (given-within _ c.args.count c.loop-p.p c.loop-p-test.true)
 
 pub slice_bounds-lay_out-end : goal.slice_bounds-lay_out-end
-slice_bounds-lay_out-end c = omega (arith, still_sized c.requires c.loop-p.invariant)
+slice_bounds-lay_out-end c = omega (arith, still_sized c.requires (omega arith) c.loop-p.invariant)
 
 pub lay_out-requires : goal.lay_out-requires
 unfolding start_size
@@ -105,7 +104,7 @@ lay_out-requires c =
     let below = c.loop-p-test.true in
     let mine = given_is args.table.now args.words.now p inv.counted c.given_to-given.ensures in (
       ap length (lent c.loop-p.state p)
-          ∙ process_length _ args.count p (still_sized pre inv) below,
+          ∙ process_length _ args.count p (still_sized pre (omega arith) inv) below,
       rw (mine, inv.counted) (start_words-length _ _ args.count p pre.worded below),
       omega (arith, inv.counted),
     )
@@ -129,14 +128,13 @@ loop-p-preserved c =
     let sized : length last ≡ process_words =
     lay-out.auto.words
     ∙ ap length (lent state p)
-    ∙ process_length state count p (still_sized pre inv) loop-test.true in
+    ∙ process_length state count p (still_sized pre (omega arith) inv) loop-test.true in
     let laid_out : last ≡ start_process (decode table) (start_words (decode table) words p) =
     laid-all (decode table) (start_words (decode table) words p) (formed table pre.well-formed).variables-high
     (start_words-length (decode table) words count p pre.worded loop-test.true) last sized
     (λ i l. rw (inv.counted, inv.entered, mine) at (lay-out.ensures i l)) in
     let next : p + 1 ≡ suc p = add-one p in
     record {
-      within = omega arith;
       counted = inv.counted;
       entered = inv.entered;
       reached = rw (next, ← inv.reached) (back state last p ∙ ap (with_process state p) laid_out);
@@ -145,12 +143,12 @@ loop-p-preserved c =
 pub shape_of-state : goal.shape_of-state
 shape_of-state c =
     let pre = c.requires in
-    still_sized pre c.loop-p.invariant ∙ sym pre.stated
+    still_sized pre (omega arith) c.loop-p.invariant ∙ sym pre.stated
 
 pub returns : goal.returns
 unfolding start_state
 returns c =
     let args = c.args in
     let inv = c.loop-p.invariant in
-    let end : c.loop-p.p ≡ args.count = omega (arith, inv.within) in
+    let end : c.loop-p.p ≡ args.count = omega arith in
     inv.reached ∙ ap (λ n. each_process (laid_for args.table.now args.words.now) n args.state.now) end

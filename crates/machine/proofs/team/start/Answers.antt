@@ -1,14 +1,10 @@
 -- `machine::team::start` meets its contract.
 use Rattle.machine.proofs.VerdictSteps.{refused_form}
+use Rattle.std.proofs.lemmas.Result.{err_from_is_err_and}
 use mathlib.Core.Path.{sym, ◌∙◌}
 use Rattle.machine.proofs.team.start.Goals as goal
 
-pub start_formed-requires : goal.start_formed-requires
-start_formed-requires c =
-    let formed = c.well_formed-formed.ensures in
-    sym formed ∙ c.in-Accepted.is
-
-pub returns-in-Refused : goal.returns-in-Refused
-returns-in-Refused c =
-    let formed = c.well_formed-formed.ensures in
-    refused_form _ _ _ _ _ (sym formed ∙ c.in-Refused.is)
+pub returns-in_err-well_formed : goal.returns-in_err-well_formed
+returns-in_err-well_formed c =
+    let p = err_from_is_err_and c.from_residual.result c.from_residual.ensures.1 in
+    rw (p.1, p.2) (refused_form _ _ _ _ _ (sym c.well_formed-2.ensures ∙ c.in_err-well_formed.was))

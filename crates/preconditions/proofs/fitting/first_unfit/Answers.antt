@@ -11,7 +11,7 @@ use Rattle.rules.specs.Table.{decode}
 use Rattle.preconditions.proofs.fitting.first_unfit.Goals as goal
 
 pub loop-p-init : goal.loop-p-init
-loop-p-init c = (omega arith, passed_none _)
+loop-p-init c = passed_none _
 
 pub words_fit-requires : goal.words_fit-requires
 words_fit-requires c =
@@ -31,7 +31,7 @@ returns-then-not-words_fit c =
     let fails : process_fits (decode args.table.now) args.state.now args.roll.now loop.p ≡ false =
     rw (← c.process_at.ensures) (sym c.words_fit.ensures ∙ c.if-not-words_fit.true) in
     sym (first-at (process_fits (decode args.table.now) args.state.now args.roll.now) _ loop.p
-    c.loop-p-test.true loop.invariant.1 fails)
+    c.loop-p-test.true loop.invariant fails)
 
 pub loop-p-preserved : goal.loop-p-preserved
 unfolding process_fits
@@ -39,13 +39,10 @@ loop-p-preserved c =
     let loop = c.loop-p in
     let args = c.args in
     let passes : process_fits (decode args.table.now) args.state.now args.roll.now loop.p ≡ true =
-    rw (← c.process_at.ensures) (sym c.words_fit.ensures ∙ c.if-not-words_fit.false) in (
-      omega arith,
-      passed-more (process_fits (decode args.table.now) args.state.now args.roll.now) loop.p loop.invariant.1
-          passes,
-    )
+    rw (← c.process_at.ensures) (sym c.words_fit.ensures ∙ c.if-not-words_fit.false) in
+    passed-more (process_fits (decode args.table.now) args.state.now args.roll.now) loop.p loop.invariant passes
 
 pub returns : goal.returns
 returns c =
     let end : c.loop-p.p ≡ c.args.count = omega arith in
-    sym (first-none _ c.args.count (rw end at c.loop-p.invariant.1))
+    sym (first-none _ c.args.count (rw end at c.loop-p.invariant))

@@ -1,12 +1,8 @@
 -- `preconditions::fitting::first_unfit` meets its contract. The loop has passed only processes that question 23 holds of.
 use Rattle.rules.proofs.ChoiceLaws.{Passed}
 use Rattle.rules.specs.Step.{process_fits}
-use Prim.Native.Nat.{◌-◌, ◌≤◌}
 use Rattle.rules.specs.Table.{decode}
 use Rattle.preconditions.proofs.fitting.first_unfit.Given as goal
 
 abbrev pub invariant-loop-p : goal.invariant-loop-p
-invariant-loop-p l = (l.p ≤ l.count) × Passed (process_fits (decode l.table) l.state l.roll) l.p
-
-abbrev pub decreases-loop-p : goal.decreases-loop-p
-decreases-loop-p l = l.count - l.p
+invariant-loop-p l = Passed (process_fits (decode l.table) l.state l.roll) l.p

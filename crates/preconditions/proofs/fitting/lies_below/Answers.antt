@@ -10,28 +10,26 @@ use Rattle.preconditions.proofs.fitting.lies_below.Invariants.{other}
 use Rattle.preconditions.proofs.fitting.lies_below.Goals as goal
 
 pub loop-height-init : goal.loop-height-init
-loop-height-init c = (omega arith, passed_none _)
+loop-height-init c = passed_none _
 
 pub overflow_cast-words : goal.overflow_cast-words
-overflow_cast-words c = omega (arith, c.shared_slice_known-in-loop-height-1.given (stack_at + c.loop-height.height))
+overflow_cast-words c = omega (arith, c.type_inv.words (stack_at + c.loop-height.height))
 
-pub returns-then-words-at : goal.returns-then-words-at
-returns-then-words-at c =
+pub returns-then-words-height : goal.returns-then-words-height
+returns-then-words-height c =
     let args = c.args in
     ap not
     (sym (all-false (other args.words.now args.w) _ c.loop-height.height c.loop-height-test.true
-    (ap not (eq-eqb _ _ c.if-words-at.true))))
+    (ap not (eq-eqb _ _ c.if-words-height.true))))
 
 pub loop-height-preserved : goal.loop-height-preserved
 loop-height-preserved c =
-    let args = c.args in (
-      omega arith,
-      passed-more (other args.words.now args.w) c.loop-height.height c.loop-height.invariant.1 (ap not (ne_eqb _ _ c.if-words-at.false)),
-    )
+    let args = c.args in
+    passed-more (other args.words.now args.w) c.loop-height.height c.loop-height.invariant (ap not (ne_eqb _ _ c.if-words-height.false))
 
 pub returns : goal.returns
 returns c =
     let args = c.args in
     ap not
     (sym (all_true (other args.words.now args.w) _
-    (λ k l. c.loop-height.invariant.1 k (omega arith))))
+    (λ k l. c.loop-height.invariant k (omega arith))))

@@ -1,7 +1,7 @@
 -- `preconditions::fitting::lies_below` meets its contract. The loop has passed only entries that are not the node.
 use mathlib.Core.Bool.{Bool, not}
 use mathlib.Core.List.{List}
-use Prim.Native.Nat.{ℕ, ◌+◌, ◌-◌, ◌≤◌}
+use Prim.Native.Nat.{ℕ, ◌+◌}
 use lib.Dec.{eqb}
 use lib.ListN.{get_or}
 use Rattle.rules.specs.Process.{stack_at}
@@ -12,7 +12,4 @@ abbrev pub other : List ℕ → ℕ → ℕ → Bool
 other words w i = not (eqb (get_or words (stack_at + i) 0) w)
 
 abbrev pub invariant-loop-height : goal.invariant-loop-height
-invariant-loop-height l = (l.height ≤ l.below) × Passed (other l.words l.w) l.height
-
-abbrev pub decreases-loop-height : goal.decreases-loop-height
-decreases-loop-height l = l.below - l.height
+invariant-loop-height l = Passed (other l.words l.w) l.height

@@ -26,10 +26,10 @@ decides test n count true e h last = sym (all_true test count (λ k l. passed-mo
 decides test n count false e h last = sym (all-false test count n (omega arith) (sym last))
 
 pub loop-i-init : goal.loop-i-init
-loop-i-init c = (omega arith, passed_none _)
+loop-i-init c = passed_none _
 
 pub overflow_cast-words : goal.overflow_cast-words
-overflow_cast-words c = omega (arith, c.shared_slice_known-in-loop-i-1.given (stack_at + 2 * c.loop-i.i))
+overflow_cast-words c = omega (arith, c.type_inv.words (stack_at + 2 * c.loop-i.i))
 
 pub names_statement-requires : goal.names_statement-requires
 names_statement-requires c = read-sized c.requires.0
@@ -42,7 +42,7 @@ returns-then-not-names_statement c =
     (sym c.names_statement.ensures ∙ c.if-not-names_statement.true))
 
 pub overflow_cast-words-in-loop-i : goal.overflow_cast-words-in-loop-i
-overflow_cast-words-in-loop-i c = omega (arith, c.shared_slice_known-in-loop-i-2-1.given (stack_at + 2 * c.loop-i.i + 1))
+overflow_cast-words-in-loop-i c = omega (arith, c.type_inv.words (stack_at + 2 * c.loop-i.i + 1))
 
 pub names_statement-requires-in-loop-i : goal.names_statement-requires-in-loop-i
 names_statement-requires-in-loop-i c = read-sized c.requires.0
@@ -67,20 +67,20 @@ loop-i-preserved c =
     sym (entry_at args.table.now args.words.now (2 * i + 1) (stack_at + 2 * i + 1) _ (omega arith)
     c.names_statement-in-loop-i.ensures)
     ∙ c.if-not-names_statement-2.false in
-    let both = passed-more _ _ (passed-more _ _ loop.invariant.1 first) second in
-    (omega arith, λ k l. both k (omega arith))
+    let both = passed-more _ _ (passed-more _ _ loop.invariant first) second in
+    λ k l. both k (omega arith)
 
 pub returns-then-depth-eq0 : goal.returns-then-depth-eq0
 unfolding stack_fits
 returns-then-depth-eq0 c =
     let args = c.args in
     let loop = c.loop-i in
-    sym (all_true (entry-fits args.table.now args.words.now) _ (λ k l. loop.invariant.1 k (omega arith)))
+    sym (all_true (entry-fits args.table.now args.words.now) _ (λ k l. loop.invariant k (omega arith)))
 
 pub overflow_cast-words-2 : goal.overflow_cast-words-2
 overflow_cast-words-2 c =
     let words = c.args.words.now in
-    omega (arith, c.shared_slice_known-4-1.given (depth_at + get_or words depth_at 0))
+    omega (arith, c.type_inv.words (depth_at + get_or words depth_at 0))
 
 pub names_statement-requires-2 : goal.names_statement-requires-2
 names_statement-requires-2 c = read-sized c.requires.0
@@ -92,5 +92,5 @@ returns c =
     let loop = c.loop-i in
     let high = get_or args.words.now depth_at 0 in
     let odd : high ≡ 2 * loop.i + 1 = omega arith in
-    decides (entry-fits args.table.now args.words.now) (2 * loop.i) high _ odd loop.invariant.1
+    decides (entry-fits args.table.now args.words.now) (2 * loop.i) high _ odd loop.invariant
     (entry_at args.table.now args.words.now (2 * loop.i) (depth_at + high) _ (omega arith) c.names_statement-2.ensures)

@@ -1,7 +1,7 @@
 -- `preconditions::fitting::stack_fits` meets its contract. The loop has passed only entries that are statements, two a turn.
 use mathlib.Core.Bool.{Bool}
 use mathlib.Core.List.{List}
-use Prim.Native.Nat.{ℕ, ◌+◌, ◌-◌, ◌*◌, ◌≤◌}
+use Prim.Native.Nat.{ℕ, ◌+◌, ◌*◌}
 use lib.ListN.{get_or}
 use Rattle.rules.specs.Process.{stack_at}
 use Rattle.rules.specs.WellFormed.{is_statement}
@@ -13,7 +13,4 @@ abbrev pub entry-fits : List ℕ → List ℕ → ℕ → Bool
 entry-fits table words i = is_statement (decode table) (get_or words (stack_at + i) 0)
 
 abbrev pub invariant-loop-i : goal.invariant-loop-i
-invariant-loop-i l = (l.i ≤ l.pairs) × Passed (entry-fits l.table l.words) (2 * l.i)
-
-abbrev pub decreases-loop-i : goal.decreases-loop-i
-decreases-loop-i l = l.pairs - l.i
+invariant-loop-i l = Passed (entry-fits l.table l.words) (2 * l.i)

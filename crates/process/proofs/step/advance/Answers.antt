@@ -1,5 +1,6 @@
 -- `process::step::advance` meets its contract.
 -- Each arm's function asks what a well-formed table says of the parts of that kind.
+use Rattle.std.proofs.Common.{arith}
 use Rattle.rules.proofs.KindLaws.{assign_of, sequence_of, branch_of, loop_of, call_of, latch_of, leave_of}
 use Rattle.process.proofs.StatementLaws.{top-statement, turn-assign, turn-sequence, turn-branch, turn-loop}
 use Rattle.process.proofs.StatementLaws.{turn_repeat, turn-call, turn_body, turn-latch, turn-leave}
@@ -78,8 +79,7 @@ pub returns-in_default : goal.returns-in_default
 unfolding advanced
 returns-in_default c =
     let given = c.requires in
-    let rest = c.in_default.in_default-own.rest in
     let is =
-    no-work _ given.alone rest.0.0.0.0.0.0.1 rest.0.0.0.0.0.1 rest.0.0.0.0.1 rest.0.0.0.1
-    rest.0.0.1 rest.0.1 rest.1 in
+    no-work c.args.node given.alone (λ e. omega arith) (λ e. omega arith) (λ e. omega arith) (λ e. omega arith)
+    (λ e. omega arith) (λ e. omega arith) (λ e. omega arith) in
     rw (top-statement given.topped is) c.pop.ensures

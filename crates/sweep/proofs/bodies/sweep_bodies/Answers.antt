@@ -1,5 +1,5 @@
 -- `bodies::sweep_bodies` meets its contract: each body keeps what the sweep says so far, and raises no refusal.
-use mathlib.Core.Path.{◌≡◌, sym, ◌∙◌, ap}
+use mathlib.Core.Path.{◌≡◌, ◌∙◌, ap}
 use Prim.Native.Nat.{◌<◌}
 use native.Mathlib.Omega.{arith}
 use lib.ListN.{length}
@@ -11,10 +11,7 @@ use Rattle.sweep.proofs.bodies.sweep_bodies.Goals as goal
 pub loop-p-init : goal.loop-p-init
 loop-p-init c =
     let given = c.requires in
-    (omega arith, given.1, entered-none _ _ _ given.2, omega arith)
-
-pub sweep_body-best-requires : goal.sweep_body-best-requires
-sweep_body-best-requires c = (c.requires.0, omega arith, c.loop-p.invariant.1)
+    (given.1, entered-none _ _ _ given.2, omega arith)
 
 pub loop-p-preserved : goal.loop-p-preserved
 loop-p-preserved c =
@@ -22,17 +19,13 @@ loop-p-preserved c =
     let inv = c.loop-p.invariant in
     let done = c.sweep_body-best.ensures in
     let low : c.loop-p.p < 16 = omega (arith, given.procedures-read, given.procedures-high) in (
-      omega arith,
-      ap length done.1 ∙ body-length _ _ _ ∙ inv.1,
-      rw (done.0, done.1) (body_swept _ given.nodes-high _ low _ _ inv.2),
-      body-lower _ _ _ _ done.0 inv.3,
+      ap length done.1 ∙ body-length _ _ _ ∙ inv.0,
+      rw (done.0, done.1) (body_swept _ given.nodes-high _ low _ _ inv.1),
+      body-lower _ _ _ _ done.0 inv.2,
     )
-
-pub shape_of-marks : goal.shape_of-marks
-shape_of-marks c = c.loop-p.invariant.1 ∙ sym c.requires.1
 
 pub returns : goal.returns
 returns c =
     let inv = c.loop-p.invariant in
     let all : c.loop-p.p ≡ procedures (decode c.args.table.now) = omega (arith, c.requires.0.procedures-read) in
-    (entered_all _ _ _ (simp all at inv.2), inv.1, inv.3)
+    (entered_all _ _ _ (simp all at inv.1), inv.0, inv.2)

@@ -1,6 +1,6 @@
 -- `bodies::unflagged` meets its contract: the least refusal so far is that of the nodes and of the procedures asked.
 use mathlib.Core.Path.{◌≡◌}
-use Prim.Native.Nat.{◌≤◌, ◌-◌, min}
+use Prim.Native.Nat.{min}
 use Rattle.rules.specs.Table.{decode}
 use Rattle.visit.specs.Fields.{facts_plane}
 use Rattle.visit.specs.Least.{least_below}
@@ -8,8 +8,4 @@ use Rattle.sweep.specs.Asked.{effect_code}
 use Rattle.sweep.proofs.bodies.unflagged.Given as goal
 
 abbrev pub invariant-loop-p : goal.invariant-loop-p
-invariant-loop-p l =
-    (l.p ≤ l.count) × (l.best ≡ min l.rule (least_below (effect_code (decode l.table) (facts_plane l.planes)) l.p))
-
-abbrev pub decreases-loop-p : goal.decreases-loop-p
-decreases-loop-p l = l.count - l.p
+invariant-loop-p l = l.best ≡ min l.rule (least_below (effect_code (decode l.table) (facts_plane l.planes)) l.p)

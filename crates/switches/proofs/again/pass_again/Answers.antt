@@ -1,17 +1,17 @@
 -- `again::pass_again` meets its contract: no leave counts in a table without any. The loop's invariant: the nodes so far that count are
 -- passed.
-use mathlib.Core.Path.{◌≡◌, sym, ◌∙◌}
+use mathlib.Core.Path.{refl, sym, ◌∙◌}
 use native.Mathlib.Omega.{arith}
 use Rattle.leaves.proofs.PassLaws.{none_passed, passed_none, passed-all}
 use Rattle.loops.proofs.BuiltLaws.{no_leave_at}
 use Rattle.table.proofs.PassingLaws.{read-formed, read-built, header-nodes}
 use Rattle.rules.specs.Judgement.{counted}
-use Rattle.rules.specs.Table.{decode, nodes}
+use Rattle.rules.specs.Table.{decode}
 use Rattle.table.proofs.BitLaws.{bit-zero}
 use Rattle.visit.specs.Fields.{plane_words}
 use Rattle.switches.specs.Aside.{work_planes}
-use Rattle.switches.proofs.AgainLaws.{uncounted_leaves}
-use Rattle.switches.proofs.FourLaws.{work-length}
+use Rattle.switches.proofs.AgainLaws.{uncounted_leaves, stretch_within, stretch_counts, counting, passed-over}
+use Rattle.switches.proofs.FourLaws.{work-length, work_put_work, beside_work}
 use Rattle.switches.proofs.again.pass_again.Goals as goal
 
 pub has_leave-requires : goal.has_leave-requires
@@ -29,8 +29,8 @@ returns-then-not-has_leave c =
           (work-length planes beside.size) (λ k l. rw c.requires.planes_value.1 (bit-zero plane_words k)),
     )
 
-pub loop-reached-init : goal.loop-reached-init
-loop-reached-init c =
+pub loop-first-init : goal.loop-first-init
+loop-first-init c =
     let (read, beside, high) = c.requires.passing in
     let planes = c.args.planes.now in (
       omega arith,
@@ -38,26 +38,44 @@ loop-reached-init c =
       passed_none _ _ _ (work_planes planes) high (work-length planes beside.size) c.requires.planes_value.0 c.requires.planes_value.1,
     )
 
-pub pass_stretch-reached-requires : goal.pass_stretch-reached-requires
-pass_stretch-reached-requires c =
+pub next_stretch-requires : goal.next_stretch-requires
+next_stretch-requires c =
     let read = c.requires.passing.0 in
-    let so_far = c.loop-reached.invariant in
-    (read, omega (arith, header-nodes read), so_far.1, so_far.2.high)
+    (c.loop-first.invariant.1.size, c.loop-first.invariant.0, omega (arith, header-nodes read, (read-formed read).nodes-high))
 
-pub loop-reached-smaller : goal.loop-reached-smaller
-loop-reached-smaller c = omega (arith, c.pass_stretch-reached.ensures.0.more)
+pub pass_nodes-least-requires : goal.pass_nodes-least-requires
+pass_nodes-least-requires c =
+    let read = c.requires.passing.0 in
+    let (inside, beside, so_far) = c.loop-first.invariant in
+    let (past, from, some, stretch) = c.in-Some.ensures in
+    (read-built read, so_far.high, work-length c.loop-first.planes beside.size, stretch.from, omega (arith, stretch.to, header-nodes read))
 
-pub loop-reached-preserved : goal.loop-reached-preserved
-loop-reached-preserved c =
-    let (onward, beside, passed) = c.pass_stretch-reached.ensures in
-    (onward.within, beside, passed _ _ c.loop-reached.invariant.2)
-
-pub shape_of-planes : goal.shape_of-planes
-shape_of-planes c = c.loop-reached.invariant.1.size ∙ sym c.requires.passing.1.size
+pub loop-first-preserved : goal.loop-first-preserved
+loop-first-preserved c =
+    let read = c.requires.passing.0 in
+    let table = c.args.table.now in
+    let planes = c.loop-first.planes in
+    let (inside, beside, so_far) = c.loop-first.invariant in
+    let (past, from, some, stretch) = c.in-Some.ensures in
+    let formed = read-formed read in
+    let all = header-nodes read in
+    let within = stretch_within (decode table) formed planes beside all stretch in
+    let counts = stretch_counts (decode table) formed planes beside all stretch in
+    let words = c.pass_nodes-least.new.planes in
+    let passed = c.pass_nodes-least.ensures in
+    let at_first = passed-over table formed planes beside _ c.in-Some.first past from (omega arith) _ _ (work_planes planes) _ so_far in (
+      stretch.to,
+      beside_work planes beside.size words passed.size beside,
+      rw (work_put_work planes beside.size words passed.size)
+          (passed.passed (counting table formed _ _ within counts _ (omega arith)) _ _ at_first),
+    )
 
 pub returns : goal.returns
 returns c =
-    let loop = c.loop-reached in
-    let all : loop.reached.node ≡ nodes (decode c.args.table.now) =
-    omega (arith, loop.invariant.0, header-nodes c.requires.passing.0) in
-    (loop.invariant.1, passed-all _ _ _ _ loop.invariant.2 all)
+    let read = c.requires.passing.0 in
+    let (inside, beside, so_far) = c.loop-first.invariant in
+    let all = header-nodes read in
+    let planes = c.loop-first.planes in
+    let past = rw all at c.in_default.ensures in
+    let done = passed-over c.args.table.now (read-formed read) planes beside _ _ past (omega arith) (omega arith) _ _ (work_planes planes) _ so_far in
+    (beside, passed-all _ _ _ _ done refl)

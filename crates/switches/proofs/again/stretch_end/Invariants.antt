@@ -1,14 +1,10 @@
 -- `again::stretch_end` meets its contract. The loop's invariant: no node so far is marked.
 use mathlib.Core.Bool.{false}
 use mathlib.Core.Path.{◌≡◌}
-use Prim.Native.Nat.{ℕ, ◌-◌, ◌≤◌, ◌<◌}
+use Prim.Native.Nat.{ℕ, ◌≤◌, ◌<◌}
 use Rattle.table.specs.Marks.{bit_at}
 use Rattle.switches.specs.Aside.{aside_plane}
 use Rattle.switches.proofs.again.stretch_end.Given as goal
 
 abbrev pub invariant-loop-end : goal.invariant-loop-end
-invariant-loop-end l =
-    (l.n ≤ l.end) × (l.end ≤ l.count) × ((k : ℕ) → l.n ≤ k → k < l.end → bit_at (aside_plane l.planes) k ≡ false)
-
-abbrev pub decreases-loop-end : goal.decreases-loop-end
-decreases-loop-end l = l.count - l.end
+invariant-loop-end l = (k : ℕ) → l.n ≤ k → k < l.end → bit_at (aside_plane l.planes) k ≡ false

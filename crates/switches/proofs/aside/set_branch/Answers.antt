@@ -38,7 +38,7 @@ pub mark-requires : goal.mark-requires
 mark-requires c =
     let (here, low, size) = c.requires in
     let (x, y) = branch-few _ (read-formed here) _ low _ c.node_at-node.ensures c.if-node-ne19.false in
-    omega (arith, size, chosen-few (eqb c.in-Value.value 0) x y c.not_taken.ensures)
+    omega (arith, size, chosen-few (eqb c.in-Some.value 0) x y c.not_taken.ensures)
 
 pub returns : goal.returns
 unfolding with_bits
@@ -50,4 +50,4 @@ returns c =
     ∙ ap (with_bits aside)
     (sym
     (branch-never _ (read-formed here) _ low _ c.node_at-node.ensures c.if-node-ne19.false
-    (sym (ap fixed_as c.in-Value.is) ∙ c.fixing.ensures)))
+    (sym (ap fixed_as c.in-Some.is) ∙ c.fixing.ensures)))

@@ -9,8 +9,8 @@ use Rattle.switches.proofs.aside.set_node.Goals as goal
 pub kind_at-requires : goal.kind_at-requires
 kind_at-requires c = readable (read-built c.requires.0) c.requires.1
 
-pub returns-then-kind_at-lt18 : goal.returns-then-kind_at-lt18
-returns-then-kind_at-lt18 c = sym (plain-marks _ _ _ (omega (arith, c.kind_at.ensures, c.if-kind_at-lt18.true)))
+pub returns-then-kind_at-lt-SEQUENCE : goal.returns-then-kind_at-lt-SEQUENCE
+returns-then-kind_at-lt-SEQUENCE c = sym (plain-marks _ _ _ (omega (arith, c.kind_at.ensures, c.if-kind_at-lt-SEQUENCE.true)))
 
 pub marked-requires : goal.marked-requires
 marked-requires c =

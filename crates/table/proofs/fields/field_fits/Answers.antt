@@ -1,55 +1,31 @@
 -- `fields::field_fits` meets its contract: each role in turn.
+use mathlib.Core.Logic.{⊎_elim}
+use mathlib.Core.Path.{◌≡◌}
+use Rattle.table.specs.declared.fields.Role.TheVariants.{Unnamed, Half}
 use Rattle.table.specs.Roles.{field_fits}
-use borrow.Author.Tests.{eq-eqb, ne_eqb}
 use Rattle.table.proofs.fields.field_fits.Goals as goal
 
-pub returns-then-role-eq-VARIABLE : goal.returns-then-role-eq-VARIABLE
+pub returns-in-Variable : goal.returns-in-Variable
 unfolding field_fits
-returns-then-role-eq-VARIABLE c = simp (eq-eqb _ _ c.if-role-eq-VARIABLE.true, c.requires.0.variables-read)
+returns-in-Variable c = simp (c.in-Variable.is, c.requires.0.variables-read)
 
-pub returns-then-role-eq-EXPRESSION : goal.returns-then-role-eq-EXPRESSION
+pub returns-in-Expression : goal.returns-in-Expression
 unfolding field_fits
-returns-then-role-eq-EXPRESSION c = simp (ne_eqb _ _ c.if-role-eq-VARIABLE.false, eq-eqb _ _ c.if-role-eq-EXPRESSION.true, c.expression_part.ensures)
+returns-in-Expression c = simp (c.in-Expression.is, c.expression_part.ensures)
 
-pub returns-then-role-eq-STATEMENT : goal.returns-then-role-eq-STATEMENT
+pub returns-in-Statement : goal.returns-in-Statement
 unfolding field_fits
-returns-then-role-eq-STATEMENT c =
-    simp (
-      ne_eqb _ _ c.if-role-eq-VARIABLE.false,
-      ne_eqb _ _ c.if-role-eq-EXPRESSION.false,
-      eq-eqb _ _ c.if-role-eq-STATEMENT.true,
-      c.statement_part.ensures,
-    )
+returns-in-Statement c = simp (c.in-Statement.is, c.statement_part.ensures)
 
-pub returns-then-role-eq-PROCEDURE : goal.returns-then-role-eq-PROCEDURE
+pub returns-in-Procedure : goal.returns-in-Procedure
 unfolding field_fits
-returns-then-role-eq-PROCEDURE c =
-    simp (
-      ne_eqb _ _ c.if-role-eq-VARIABLE.false,
-      ne_eqb _ _ c.if-role-eq-EXPRESSION.false,
-      ne_eqb _ _ c.if-role-eq-STATEMENT.false,
-      eq-eqb _ _ c.if-role-eq-PROCEDURE.true,
-      c.requires.0.procedures-read,
-    )
+returns-in-Procedure c = simp (c.in-Procedure.is, c.requires.0.procedures-read)
 
-pub returns-then-role-eq-AREA : goal.returns-then-role-eq-AREA
+pub returns-in-Area : goal.returns-in-Area
 unfolding field_fits
-returns-then-role-eq-AREA c =
-    simp (
-      ne_eqb _ _ c.if-role-eq-VARIABLE.false,
-      ne_eqb _ _ c.if-role-eq-EXPRESSION.false,
-      ne_eqb _ _ c.if-role-eq-STATEMENT.false,
-      ne_eqb _ _ c.if-role-eq-PROCEDURE.false,
-      eq-eqb _ _ c.if-role-eq-AREA.true,
-    )
+returns-in-Area c = simp (c.in-Area.is)
 
-pub returns : goal.returns
+pub returns-in-Unnamed : goal.returns-in-Unnamed
 unfolding field_fits
-returns c =
-    simp (
-      ne_eqb _ _ c.if-role-eq-VARIABLE.false,
-      ne_eqb _ _ c.if-role-eq-EXPRESSION.false,
-      ne_eqb _ _ c.if-role-eq-STATEMENT.false,
-      ne_eqb _ _ c.if-role-eq-PROCEDURE.false,
-      ne_eqb _ _ c.if-role-eq-AREA.false,
-    )
+returns-in-Unnamed c =
+    ⊎_elim (λ (e : c.args.role ≡ Unnamed). simp e) (λ (e : c.args.role ≡ Half). simp e) c.in-Unnamed.is

@@ -1,12 +1,18 @@
 -- `fields::field_zero` meets its contract: only an unnamed field is compared with 0.
+use native.Mathlib.Omega.{arith}
+use mathlib.Core.Path.{◌≡◌, sym}
+use Rattle.table.specs.declared.fields.Role.TheVariants.{Unnamed}
 use Rattle.table.specs.Roles.{field_zero}
-use borrow.Author.Tests.{eq-eqb, ne_eqb}
+use Rattle.table.proofs.RoleLaws.{zero-named}
 use Rattle.table.proofs.fields.field_zero.Goals as goal
 
-pub returns-then-role-ne-UNNAMED : goal.returns-then-role-ne-UNNAMED
+pub returns-in-Unnamed : goal.returns-in-Unnamed
 unfolding field_zero
-returns-then-role-ne-UNNAMED c = simp (ne_eqb _ _ c.if-role-ne-UNNAMED.true)
+returns-in-Unnamed c = simp c.in-Unnamed.is
 
-pub returns : goal.returns
+pub returns-in_default : goal.returns-in_default
 unfolding field_zero
-returns c = simp (eq-eqb _ _ c.if-role-ne-UNNAMED.false)
+returns-in_default c =
+    sym
+    (zero-named c.args.role c.args.value
+    (λ (e : c.args.role ≡ Unnamed). grind arith))

@@ -9,7 +9,7 @@ returns-then-not-field_fits c =
     simp (
       fits_law (decode args.table.now) args.n,
       ← c.node_at-node.ensures,
-      ← c.role.ensures,
+      ← c.roles_of-roles.ensures,
       ← c.field_fits.ensures,
       c.if-not-field_fits.true,
     )
@@ -21,10 +21,9 @@ returns-then-not-field_fits-2 c =
     simp (
       fits_law (decode args.table.now) args.n,
       ← c.node_at-node.ensures,
-      ← c.role.ensures,
+      ← c.roles_of-roles.ensures,
       ← field-fits.ensures,
       c.if-not-field_fits.false,
-      ← c.role-2.ensures,
       ← c.field_fits-2.ensures,
       c.if-not-field_fits-2.true,
     )
@@ -37,12 +36,10 @@ returns c =
     simp (
       fits_law (decode args.table.now) args.n,
       ← c.node_at-node.ensures,
-      ← c.role.ensures,
+      ← c.roles_of-roles.ensures,
       ← field-fits.ensures,
       c.if-not-field_fits.false,
-      ← c.role-2.ensures,
       ← field-fits2.ensures,
       c.if-not-field_fits-2.false,
-      ← c.role-3.ensures,
       ← c.field_fits-3.ensures,
     )

@@ -6,7 +6,7 @@ pub returns-then-not-field_zero : goal.returns-then-not-field_zero
 returns-then-not-field_zero c =
     simp (
       zero_law c.args.node,
-      ← c.role.ensures,
+      ← c.roles_of-roles.ensures,
       ← c.field_zero.ensures,
       c.if-not-field_zero.true,
     )
@@ -16,10 +16,9 @@ returns-then-not-field_zero-2 c =
     let field-zero = c.field_zero in
     simp (
       zero_law c.args.node,
-      ← c.role.ensures,
+      ← c.roles_of-roles.ensures,
       ← field-zero.ensures,
       c.if-not-field_zero.false,
-      ← c.role-2.ensures,
       ← c.field_zero-2.ensures,
       c.if-not-field_zero-2.true,
     )
@@ -30,12 +29,10 @@ returns c =
     let field-zero = c.field_zero in
     simp (
       zero_law c.args.node,
-      ← c.role.ensures,
+      ← c.roles_of-roles.ensures,
       ← field-zero.ensures,
       c.if-not-field_zero.false,
-      ← c.role-2.ensures,
       ← field-zero2.ensures,
       c.if-not-field_zero-2.false,
-      ← c.role-3.ensures,
       ← c.field_zero-3.ensures,
     )

@@ -1,37 +1,24 @@
--- `marks::first_unmarked` meets its contract. The loop's invariant: every node passed is marked.
-use Rattle.table.specs.Marks.{bit_at}
-use Rattle.rules.proofs.ChoiceLaws.{first-none, first-at}
+-- `marks::first_unmarked` meets its contract: a full word is passed, and any other holds the answer.
+use Rattle.std.proofs.Common.{◌*◌, ◌∙◌, sym}
 use native.Mathlib.Decide.{dec_lt}
 use native.Mathlib.Omega.{arith}
-use mathlib.Core.Path.{sym}
+use Rattle.table.specs.Marks.{bit_at}
+use Rattle.table.proofs.BitLaws.{bits_full, first-ended}
+use Rattle.rules.proofs.ChoiceLaws.{first-none}
 use Rattle.table.proofs.marks.first_unmarked.Goals as goal
 
-pub loop-n-init : goal.loop-n-init
-loop-n-init c = (omega arith, λ k l. absurd (omega arith))
+pub returns-then-word : goal.returns-then-word
+returns-then-word c =
+    c.min.ensures
+    ∙ rw c.trailing_ones.ensures
+    (first-ended c.args.marks.now c.loop-i.i c.args.count (omega (arith, c.type_inv.marks c.loop-i.i)) c.loop-i.invariant)
 
-pub returns-then-more-eq0 : goal.returns-then-more-eq0
-returns-then-more-eq0 c =
-    let loop = c.loop-n in
-    let args = c.args in
-    sym
-    (first-at (bit_at args.marks.now) args.count loop.n c.loop-n-test.true loop.invariant.1
-    (c.passed-more.ensures.clear c.if-more-eq0.true))
-
-pub overflow_add-n : goal.overflow_add-n
-overflow_add-n c = omega (arith, c.passed-more.ensures.few)
-
-pub loop-n-preserved : goal.loop-n-preserved
-loop-n-preserved c =
-    let loop = c.loop-n in
-    let more = c.passed-more.ensures in (
-      omega (arith, more.few),
-      λ k l. elim (dec_lt k loop.n) [
-        | yes before ↦ loop.invariant.1 k before
-        | no after ↦ more.set k (omega arith) l
-      ],
-    )
+pub loop-i-preserved : goal.loop-i-preserved
+loop-i-preserved c = λ k low.
+    elim (dec_lt k (32 * c.loop-i.i)) [
+      | yes before ↦ c.loop-i.invariant k before
+      | no here ↦ bits_full c.args.marks.now c.loop-i.i k c.if-word.false (omega arith)
+    ]
 
 pub returns : goal.returns
-returns c =
-    let args = c.args in
-    sym (first-none (bit_at args.marks.now) args.count (λ k l. c.loop-n.invariant.1 k (omega arith)))
+returns c = sym (first-none (bit_at c.args.marks.now) c.args.count (λ k low. c.loop-i.invariant k (omega arith)))

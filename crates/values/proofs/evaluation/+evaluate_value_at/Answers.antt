@@ -35,48 +35,48 @@ evaluate-node_at-node-requires t c = readable (read-built c.requires.given.read)
 
 pub evaluate-leaf-requires-clause-kind_bound : goal.evaluate-leaf-requires-clause-kind_bound
 evaluate-leaf-requires-clause-kind_bound t c =
-    leaf_fields c.requires.given c.requires.part c.node_at-node.ensures c.if-kind-lt-DOOR.true
+    leaf_fields c.requires.given c.requires.part c.node_at-node.ensures c.if-node-lt-DOOR.true
 
 pub evaluate-leaf-requires-clause-a_lt_process_words : goal.evaluate-leaf-requires-clause-a_lt_process_words
 evaluate-leaf-requires-clause-a_lt_process_words t c = leaf_variable c.requires.given c.requires.part c.node_at-node.ensures
 
-pub evaluate-returns-then-kind-lt-DOOR : goal.evaluate-returns-then-kind-lt-DOOR
-evaluate-returns-then-kind-lt-DOOR t c =
+pub evaluate-returns-then-node-lt-DOOR : goal.evaluate-returns-then-node-lt-DOOR
+evaluate-returns-then-node-lt-DOOR t c =
     c.leaf.ensures _ ∙ valued c.requires.given c.requires.part c.node_at-node.ensures c.args.own _ refl
 
 pub evaluate-value_at-x-requires : goal.evaluate-value_at-x-requires
 evaluate-value_at-x-requires t c =
     let given = c.requires.given in
     let here = c.node_at-node.ensures in
-    let fits = first_part _ (read-shape _ _ given.read _ c.requires.part _ here) _ _ here c.if-kind-lt-DOOR.false
+    let fits = first_part _ (read-shape _ _ given.read _ c.requires.part _ here) _ _ here c.if-node-lt-DOOR.false
     (read-low _ _ given.read _ c.requires.part _ here) in
     let part = part-lower _ _ _ fits c.requires.part.0 in
     (omega arith, (given, part.1))
 
-pub evaluate-returns-then-kind-eq-DOOR : goal.evaluate-returns-then-kind-eq-DOOR
+pub evaluate-returns-then-node-eq-DOOR : goal.evaluate-returns-then-node-eq-DOOR
 unfolding value_of
-evaluate-returns-then-kind-eq-DOOR t c =
+evaluate-returns-then-node-eq-DOOR t c =
     let m = c.node_at-node.result in
     let env = environment c.args.words.now c.args.own c.args.count in
     let known : c.value_at-x.result ≡ value (decode c.args.table.now) env m.a = c.value_at-x.ensures in
     c.door.ensures
-    ∙ rw known (valued c.requires.given c.requires.part c.node_at-node.ensures c.args.own (door m.a) (door_of m c.if-kind-eq-DOOR.true))
+    ∙ rw known (valued c.requires.given c.requires.part c.node_at-node.ensures c.args.own (door m.a) (door_of m c.if-node-eq-DOOR.true))
 
 pub evaluate-slot-requires : goal.evaluate-slot-requires
 evaluate-slot-requires t c =
     let given = c.requires.given in
     let here = c.node_at-node.ensures in
-    let fields = slot_fields _ (read-shape _ _ given.read _ c.requires.part _ here) _ _ here c.if-kind-eq-SLOT.true in
+    let fields = slot_fields _ (read-shape _ _ given.read _ c.requires.part _ here) _ _ here c.if-node-eq-SLOT.true in
     (given.sized, given.few, fields.1)
 
-pub evaluate-returns-then-kind-eq-SLOT : goal.evaluate-returns-then-kind-eq-SLOT
+pub evaluate-returns-then-node-eq-SLOT : goal.evaluate-returns-then-node-eq-SLOT
 unfolding value_of
-evaluate-returns-then-kind-eq-SLOT t c =
+evaluate-returns-then-node-eq-SLOT t c =
     let m = c.node_at-node.result in
     let env = environment c.args.words.now c.args.own c.args.count in
     let known : c.value_at-x.result ≡ value (decode c.args.table.now) env m.a = c.value_at-x.ensures in
     c.slot.ensures
-    ∙ rw known (valued c.requires.given c.requires.part c.node_at-node.ensures c.args.own (slot m.a m.b) (slot_of m c.if-kind-eq-SLOT.true))
+    ∙ rw known (valued c.requires.given c.requires.part c.node_at-node.ensures c.args.own (slot m.a m.b) (slot_of m c.if-node-eq-SLOT.true))
 
 pub evaluate-value_at-y-requires : goal.evaluate-value_at-y-requires
 evaluate-value_at-y-requires t c =
@@ -96,7 +96,7 @@ evaluate-returns t c =
     let left : c.value_at-x.result ≡ value (decode c.args.table.now) env m.a = c.value_at-x.ensures in
     let right : c.value_at-y.result ≡ value (decode c.args.table.now) env m.b = c.value_at-y.ensures in
     let high : 6 ≤ m.kind =
-    omega (arith, c.if-kind-eq-SLOT.false, c.if-kind-eq-DOOR.false, c.if-kind-lt-DOOR.false) in
+    omega (arith, c.if-node-eq-SLOT.false, c.if-node-eq-DOOR.false, c.if-node-lt-DOOR.false) in
     let same = operator_of_lem m high (read-low _ _ c.requires.given.read _ c.requires.part _ here) in
     c.apply.ensures
     ∙ rw (left, right) (valued c.requires.given c.requires.part here c.args.own (operation (operator_of m.kind) m.a m.b) same)
@@ -106,11 +106,11 @@ value_at-node_at-node-requires t c = readable (read-built c.requires.given.read)
 
 pub value_at-leaf-requires-clause-kind_bound : goal.value_at-leaf-requires-clause-kind_bound
 value_at-leaf-requires-clause-kind_bound t c =
-    leaf_fields c.requires.given c.requires.part c.node_at-node.ensures c.if-kind-lt-DOOR.true
+    leaf_fields c.requires.given c.requires.part c.node_at-node.ensures c.if-node-lt-DOOR.true
 
 pub value_at-leaf-requires-clause-a_lt_process_words : goal.value_at-leaf-requires-clause-a_lt_process_words
 value_at-leaf-requires-clause-a_lt_process_words t c = leaf_variable c.requires.given c.requires.part c.node_at-node.ensures
 
-pub value_at-returns-then-kind-lt-DOOR : goal.value_at-returns-then-kind-lt-DOOR
-value_at-returns-then-kind-lt-DOOR t c =
+pub value_at-returns-then-node-lt-DOOR : goal.value_at-returns-then-node-lt-DOOR
+value_at-returns-then-node-lt-DOOR t c =
     c.leaf.ensures _ ∙ valued c.requires.given c.requires.part c.node_at-node.ensures c.args.own _ refl

@@ -4,24 +4,24 @@ use Rattle.rules.specs.Evaluation.{value_of}
 use Rattle.std.proofs.Common.{◌≡◌, arith}
 use Rattle.values.proofs.evaluation.leaf.Goals as goal
 
-pub returns-then-kind-eq-CONSTANT : goal.returns-then-kind-eq-CONSTANT
-unfolding value_of expression_of
-returns-then-kind-eq-CONSTANT c = λ part. simp c.if-kind-eq-CONSTANT.true c.constant.ensures
+pub bounds-words-node : goal.bounds-words-node
+bounds-words-node c = omega (arith, c.requires.a_lt_process_words c.in-1.is)
 
-pub bounds-words-a : goal.bounds-words-a
-bounds-words-a c = omega (arith, c.requires.a_lt_process_words c.if-kind-eq-VARIABLE.true)
-
-pub returns-then-kind-eq-VARIABLE : goal.returns-then-kind-eq-VARIABLE
+pub returns-in-0 : goal.returns-in-0
 unfolding value_of expression_of
-returns-then-kind-eq-VARIABLE c = λ part. simp c.if-kind-eq-VARIABLE.true
+returns-in-0 c = λ part. simp c.in-0.is c.constant.ensures
 
-pub returns-then-kind-eq-OWN_NUMBER : goal.returns-then-kind-eq-OWN_NUMBER
+pub returns-in-1 : goal.returns-in-1
 unfolding value_of expression_of
-returns-then-kind-eq-OWN_NUMBER c = λ part. simp c.if-kind-eq-OWN_NUMBER.true
+returns-in-1 c = λ part. simp c.in-1.is
 
-pub returns-else-kind-eq-OWN_NUMBER : goal.returns-else-kind-eq-OWN_NUMBER
+pub returns-in-2 : goal.returns-in-2
 unfolding value_of expression_of
-returns-else-kind-eq-OWN_NUMBER c =
+returns-in-2 c = λ part. simp c.in-2.is
+
+pub returns-in_default : goal.returns-in_default
+unfolding value_of expression_of
+returns-in_default c =
     λ part.
     let e : c.args.node.kind ≡ 3 = omega arith in
     simp e

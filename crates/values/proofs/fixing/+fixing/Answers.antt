@@ -16,49 +16,51 @@ constant-requires t c =
     let fields = packed-here c.args.table.now c.args.n c.node_at-node.result c.node_at-node.ensures in
     (fields.b-low, fields.c-low)
 
-pub returns-then-kind-eq-CONSTANT : goal.returns-then-kind-eq-CONSTANT
-returns-then-kind-eq-CONSTANT t c =
+pub returns-then-node-eq-CONSTANT : goal.returns-then-node-eq-CONSTANT
+returns-then-node-eq-CONSTANT t c =
     let here = c.node_at-node.ensures in
     fixed-constant (decode c.args.table.now) (read-shape _ _ c.requires.0 _ c.requires.1 _ here) c.args.n c.node_at-node.result here
-    c.if-kind-eq-CONSTANT.true c.constant.ensures
+    c.if-node-eq-CONSTANT.true c.constant.ensures
 
-pub returns-then-kind-lt-SUM : goal.returns-then-kind-lt-SUM
-returns-then-kind-lt-SUM t c =
+pub returns-then-node-lt-SUM : goal.returns-then-node-lt-SUM
+returns-then-node-lt-SUM t c =
     let here = c.node_at-node.ensures in
     fixed-none (decode c.args.table.now) (read-shape _ _ c.requires.0 _ c.requires.1 _ here) c.args.n c.node_at-node.result here
-    c.if-kind-eq-CONSTANT.false c.if-kind-lt-SUM.true
+    c.if-node-eq-CONSTANT.false c.if-node-lt-SUM.true
 
 pub fixing-requires : goal.fixing-requires
 fixing-requires t c =
     let here = c.node_at-node.ensures in
-    let fits = first_part _ (read-shape _ _ c.requires.0 _ c.requires.1 _ here) _ _ here (omega (arith, c.if-kind-lt-SUM.false))
+    let fits = first_part _ (read-shape _ _ c.requires.0 _ c.requires.1 _ here) _ _ here (omega (arith, c.if-node-lt-SUM.false))
     (read-low _ _ c.requires.0 _ c.requires.1 _ here) in
     let part = part-lower _ _ _ fits c.requires.1.0 in
     (omega arith, (c.requires.0, part.1))
 
-pub returns-in_default : goal.returns-in_default
-returns-in_default t c =
+pub returns-in_err-first : goal.returns-in_err-first
+returns-in_err-first t c =
     let here = c.node_at-node.ensures in
-    first-unfixed (decode c.args.table.now) (read-shape _ _ c.requires.0 _ c.requires.1 _ here) c.args.n c.node_at-node.result here
-    c.if-kind-lt-SUM.false (read-low _ _ c.requires.0 _ c.requires.1 _ here) (sym (ap fixed_as c.in_default.is) ∙ c.fixing.ensures)
+    rw c.from_residual.ensures
+    (first-unfixed (decode c.args.table.now) (read-shape _ _ c.requires.0 _ c.requires.1 _ here) c.args.n c.node_at-node.result here
+    c.if-node-lt-SUM.false (read-low _ _ c.requires.0 _ c.requires.1 _ here) (sym (ap fixed_as c.in_err-first.was) ∙ c.fixing.ensures))
 
 pub fixing-requires-2 : goal.fixing-requires-2
 fixing-requires-2 t c =
     let here = c.node_at-node.ensures in
-    let fits = second-part _ (read-shape _ _ c.requires.0 _ c.requires.1 _ here) _ _ here c.if-kind-lt-SUM.false
+    let fits = second-part _ (read-shape _ _ c.requires.0 _ c.requires.1 _ here) _ _ here c.if-node-lt-SUM.false
     (read-low _ _ c.requires.0 _ c.requires.1 _ here) in
     let part = part-lower _ _ _ fits c.requires.1.0 in
     (omega arith, (c.requires.0, part.1))
 
-pub returns-in_default-fixing : goal.returns-in_default-fixing
-returns-in_default-fixing t c =
+pub returns-in_err-second : goal.returns-in_err-second
+returns-in_err-second t c =
     let here = c.node_at-node.ensures in
-    second-unfixed (decode c.args.table.now) (read-shape _ _ c.requires.0 _ c.requires.1 _ here) c.args.n c.node_at-node.result here
-    c.if-kind-lt-SUM.false (read-low _ _ c.requires.0 _ c.requires.1 _ here) (sym (ap fixed_as c.in_default-fixing.is) ∙ c.fixing-2.ensures)
+    rw c.from_residual-in_err-second.ensures
+    (second-unfixed (decode c.args.table.now) (read-shape _ _ c.requires.0 _ c.requires.1 _ here) c.args.n c.node_at-node.result here
+    c.if-node-lt-SUM.false (read-low _ _ c.requires.0 _ c.requires.1 _ here) (sym (ap fixed_as c.in_err-second.was) ∙ c.fixing-2.ensures))
 
 pub returns : goal.returns
 returns t c =
     let here = c.node_at-node.ensures in
     fixed-operation (decode c.args.table.now) (read-shape _ _ c.requires.0 _ c.requires.1 _ here) c.args.n c.node_at-node.result here
-    c.if-kind-lt-SUM.false (read-low _ _ c.requires.0 _ c.requires.1 _ here) (sym (ap fixed_as c.in-Value.is) ∙ c.fixing.ensures)
-    (sym (ap fixed_as c.in-Value-fixing.is) ∙ c.fixing-2.ensures) c.apply.ensures
+    c.if-node-lt-SUM.false (read-low _ _ c.requires.0 _ c.requires.1 _ here) (sym (ap fixed_as c.in_ok-first.was) ∙ c.fixing.ensures)
+    (sym (ap fixed_as c.in_ok-second.was) ∙ c.fixing-2.ensures) c.apply.ensures

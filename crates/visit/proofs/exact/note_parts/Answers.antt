@@ -6,13 +6,13 @@ use Rattle.visit.proofs.exact.note_parts.Goals as goal
 pub note_field-after_a-requires : goal.note_field-after_a-requires
 note_field-after_a-requires c =
     let given = c.requires in
-    let below = a-below _ _ _ c.node_at-node.ensures given.3 c.role.ensures in
+    let below = a-below _ _ _ c.node_at-node.ensures given.3 c.roles_of-roles.ensures in
     (λ part. markable given.0 given.1 (below part), given.2)
 
 pub note_field-after_b-requires : goal.note_field-after_b-requires
 note_field-after_b-requires c =
     let given = c.requires in
-    let below = b-below _ _ _ c.node_at-node.ensures given.3 c.role-2.ensures in (
+    let below = b-below _ _ _ c.node_at-node.ensures given.3 c.roles_of-roles.ensures in (
       λ part. markable given.0 given.1 (below part),
       omega (arith, c.note_field-after_a.auto.marks, given.2),
     )
@@ -20,13 +20,13 @@ note_field-after_b-requires c =
 pub note_field-requires : goal.note_field-requires
 note_field-requires c =
     let given = c.requires in
-    let below = c-below _ _ _ c.node_at-node.ensures given.3 c.role-3.ensures in (
+    let below = c-below _ _ _ c.node_at-node.ensures given.3 c.roles_of-roles.ensures in (
       λ part. markable given.0 given.1 (below part),
       omega (arith, c.note_field-after_a.auto.marks, c.note_field-after_b.auto.marks, given.2),
     )
 
 pub returns : goal.returns
 returns c =
-    three-codes _ _ _ _ _ _ _ _ _ _ _ _ _ _ c.node_at-node.ensures
-    c.role.ensures c.role-2.ensures c.role-3.ensures
+    three-codes _ _ _ _ _ _ _ _ _ _ _ _ c.node_at-node.ensures
+    c.roles_of-roles.ensures
     c.note_field-after_a.ensures c.note_field-after_b.ensures c.note_field.ensures

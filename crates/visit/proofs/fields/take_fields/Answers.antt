@@ -3,7 +3,7 @@ use mathlib.Core.Path.{refl, sym}
 use native.Mathlib.Omega.{arith}
 use Rattle.table.proofs.TestLaws.{never}
 use Rattle.visit.proofs.LeastLaws.{passed, failed}
-use Rattle.visit.proofs.QuickLaws.{markable, three, part_low, used-three}
+use Rattle.visit.proofs.QuickLaws.{markable, three-tests, part_low, used-three}
 use Rattle.visit.proofs.fields.take_fields.Goals as goal
 
 pub returns-then-not-fields_free : goal.returns-then-not-fields_free
@@ -17,8 +17,7 @@ returns-then-not-fields_free c =
 pub take-requires : goal.take-requires
 take-requires c =
     let given = c.requires in
-    let t = three _ _ _ _ _ (passed c.fields_free.ensures c.if-not-fields_free.false-raw) in
-    rw c.digit.ensures (
+    let t = three-tests _ _ _ _ _ (passed c.fields_free.ensures c.if-not-fields_free.false-raw) in (
       λ part. markable given.0 given.1 (part_low _ _ _ _ _ t.a part),
       given.2,
     )
@@ -26,8 +25,7 @@ take-requires c =
 pub take-requires-2 : goal.take-requires-2
 take-requires-2 c =
     let given = c.requires in
-    let t = three _ _ _ _ _ (passed c.fields_free.ensures c.if-not-fields_free.false-raw) in
-    rw c.digit-2.ensures (
+    let t = three-tests _ _ _ _ _ (passed c.fields_free.ensures c.if-not-fields_free.false-raw) in (
       λ part. markable given.0 given.1 (part_low _ _ _ _ _ t.b part),
       omega (arith, c.take.auto.marks, given.2),
     )
@@ -35,8 +33,7 @@ take-requires-2 c =
 pub take-requires-3 : goal.take-requires-3
 take-requires-3 c =
     let given = c.requires in
-    let t = three _ _ _ _ _ (passed c.fields_free.ensures c.if-not-fields_free.false-raw) in
-    rw c.digit-3.ensures (
+    let t = three-tests _ _ _ _ _ (passed c.fields_free.ensures c.if-not-fields_free.false-raw) in (
       λ part. markable given.0 given.1 (part_low _ _ _ _ _ t.c part),
       omega (arith, c.take.auto.marks, c.take-2.auto.marks, given.2),
     )
@@ -46,7 +43,7 @@ returns c =
     let so = passed c.fields_free.ensures c.if-not-fields_free.false-raw in
     let used =
     used-three _ _ _ _
-    (rw c.digit.ensures at c.take.ensures)
-    (rw c.digit-2.ensures at c.take-2.ensures)
-    (rw c.digit-3.ensures at c.take-3.ensures) in
+    c.take.ensures
+    c.take-2.ensures
+    c.take-3.ensures in
     record { value = sym so; used = λ e. record { free = so; used = used }; marks_unchanged = λ e. never e }

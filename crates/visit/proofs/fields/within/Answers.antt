@@ -1,12 +1,17 @@
 -- `fields::within` meets its contract: one test by the role.
+use native.Mathlib.Omega.{arith}
+use mathlib.Core.Path.{◌≡◌, sym}
+use Rattle.table.specs.declared.fields.Role.TheVariants.{Procedure}
 use Rattle.visit.specs.Fields.{within}
-use borrow.Author.Tests.{ne_eqb}
+use Rattle.visit.proofs.QuickLaws.{within-other}
 use Rattle.visit.proofs.fields.within.Goals as goal
 
-pub returns-then-role-eq-PROCEDURE : goal.returns-then-role-eq-PROCEDURE
+pub returns-in-Procedure : goal.returns-in-Procedure
 unfolding within
-returns-then-role-eq-PROCEDURE c = simp c.if-role-eq-PROCEDURE.true
+returns-in-Procedure c = simp c.in-Procedure.is
 
-pub returns : goal.returns
-unfolding within
-returns c = simp (ne_eqb _ 4 c.if-role-eq-PROCEDURE.false)
+pub returns-in_default : goal.returns-in_default
+returns-in_default c =
+    sym
+    (within-other c.args.visit.limit c.args.role c.args.value
+    (λ (e : c.args.role ≡ Procedure). grind arith))
