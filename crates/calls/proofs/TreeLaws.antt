@@ -13,7 +13,6 @@ use Rattle.rules.proofs.AnywhereLaws.{In, stands_down, stands-above}
 use Rattle.rules.proofs.LeaveLaws.{counted_in}
 use Rattle.rules.proofs.LoopLaws.{in_counted, counted_append}
 use Rattle.rules.proofs.PartLaws.{tree_low}
-use Rattle.table.specs.declared.Header.{Header}
 use Rattle.table.specs.declared.fields.Role.{Role}
 use Rattle.table.specs.Roles.{roles_of, is_part, field_parts}
 use Rattle.table.specs.Uses.{Fitting}
@@ -31,7 +30,7 @@ in_field k role value h =
     (λ (e : is_part role ≡ false). let none : ⊥ = simp e at h in absurd none)
     (bool_cases (is_part role))
 
-module _ (table : List ℕ) (header : Header) (f : Fitting table header) where
+module _ (table : List ℕ) (f : Fitting table) where
   pub part_in_below : (n k : ℕ) → n < nodes (decode table) → In k (parts_at (decode table) n) → k < n
   part_in_below n k l h =
       let m = node_at (decode table) n in

@@ -13,6 +13,7 @@ use Rattle.rules.proofs.AnywhereLaws.{In}
 use Rattle.rules.proofs.ChoiceLaws.{bool_cases}
 use Rattle.rules.proofs.KindLaws.{sequence_of, branch_of, loop_of, call_of, statement-here, by_kind}
 use Rattle.table.specs.declared.Header.{Header}
+use Rattle.table.specs.Sized.{Sized}
 use Rattle.table.specs.Marks.{with_bit, with_bits}
 use Rattle.table.specs.Uses.{Fitting}
 use Rattle.table.proofs.BitLaws.{bit-same}
@@ -20,14 +21,14 @@ use Rattle.calls.specs.Walk.{inner_statements, may_call, callers, waiting, calls
 use Rattle.calls.proofs.TreeLaws.{part_in_below}
 use Rattle.calls.proofs.InnerLaws.{inner_in}
 
-pub inner_below : (table : List ℕ) (header : Header) → Fitting table header → (n a : ℕ) → n < nodes (decode table)
+pub inner_below : (table : List ℕ) → Fitting table → (n a : ℕ) → n < nodes (decode table)
     → In a (inner_statements (statement_at (decode table) n)) → a < n
-inner_below table header f n a inside h = part_in_below table header f n a inside (inner_in (decode table) n a h)
+inner_below table f n a inside h = part_in_below table f n a inside (inner_in (decode table) n a h)
 
 module _ (table : List ℕ) (n : ℕ) (m : Node) (read : m ≡ node_at (decode table) n) where
-  module _ (header : Header) (f : Fitting table header) (inside : n < header.nodes) where
+  module _ {header : Header} (s : Sized table header) (f : Fitting table) (inside : n < header.nodes) where
     fits : {s : Statement} (a : ℕ) → statement_of m ≡ s → In a (inner_statements s) → a < n
-    fits a t h = inner_below table header f n a (omega (arith, f.sized.nodes-read)) (rw (statement-here (decode table) n m read t) h)
+    fits a t h = inner_below table f n a (omega (arith, s.nodes-read)) (rw (statement-here (decode table) n m read t) h)
 
     pub sequence-fits : m.kind ≡ 18 → (m.a < n) × (m.b < n)
     unfolding inner_statements

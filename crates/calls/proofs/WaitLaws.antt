@@ -17,7 +17,6 @@ use Rattle.rules.proofs.ChoiceLaws.{bool_cases}
 use Rattle.rules.proofs.LeaveLaws.{counted_in}
 use Rattle.rules.proofs.LoopLaws.{in_counted}
 use Rattle.rules.proofs.PartLaws.{tree_self}
-use Rattle.table.specs.declared.Header.{Header}
 use Rattle.table.specs.Marks.{bit_at, with_bit, with_bits}
 use Rattle.table.specs.Uses.{Fitting}
 use Rattle.table.proofs.BitLaws.{bit-same, bit-other, bit-zero, length-with_bit}
@@ -35,7 +34,7 @@ pub record Wait (program : Program) (b i : ℕ) (m : List ℕ) : Type 0 where
   pub complete : (j k : ℕ) → i ≤ j → j < nodes program → in_tree program j b ≡ true → In k (parts_at program j)
       → may_call program k ≡ true → k < i → bit_at m k ≡ true
 
-module _ (table : List ℕ) (header : Header) (f : Fitting table header) (b : ℕ) (l : b < nodes (decode table)) where
+module _ (table : List ℕ) (f : Fitting table) (b : ℕ) (l : b < nodes (decode table)) where
   few : nodes (decode table) ≤ 256
   few = f.sized.nodes-high
 
@@ -58,10 +57,10 @@ module _ (table : List ℕ) (header : Header) (f : Fitting table header) (b : �
     waits s h =
         ⊎_elim
         (λ (same : n ≡ b). rw same (w.rooted (omega arith)))
-        (λ (p : Parent table header f n b).
-        let above = part_in_below table header f p.node n p.inside p.stands in
+        (λ (p : Parent table f n b).
+        let above = part_in_below table f p.node n p.inside p.stands in
         w.complete p.node n (omega arith) p.inside p.holds p.stands s (omega arith))
-        (tree_up table header f n b l h)
+        (tree_up table f n b l h)
 
     pub wait_passed : bit_at m n ≡ false → Wait (decode table) b n m
     wait_passed e =
@@ -130,7 +129,7 @@ module _ (table : List ℕ) (header : Header) (f : Fitting table header) (b : �
                 (λ (old : (bit_at m k ≡ true) × (k < n)). ((w.sound k low old.0).0, old.1))
                 (λ (new : In k inner).
                 let part = inner_in (decode table) n k (callers_in (decode table) k (inner_statements (statement_at (decode table) n)) new) in
-                (tree_down table header f n k b l held part, part_in_below table header f n k inside part))
+                (tree_down table f n k b l held part, part_in_below table f n k inside part))
                 (old_or_new k low e);
             rooted = λ low. kept b low (w.rooted (omega arith));
             complete = λ j k above under holds stands s low.

@@ -14,6 +14,7 @@ use Rattle.rules.specs.Table.{Program, decode, nodes, body, statement_at}
 use Rattle.rules.specs.WellFormed.{in_tree}
 use Rattle.rules.proofs.ChoiceLaws.{bool_cases}
 use Rattle.table.specs.declared.Header.{Header}
+use Rattle.table.specs.Sized.{Sized}
 use Rattle.table.specs.Marks.{bit_at, with_bit, with_bits}
 use Rattle.table.specs.Uses.{Fitting}
 use Rattle.table.proofs.BitLaws.{bit-same, bit-other, bit-zero}
@@ -75,14 +76,14 @@ pub record Going (program : Program) (p : ℕ) (next : Option ℕ) (m : List ℕ
   pub high : above next ≤ nodes program
 
 -- a procedure's body is a node
-pub body-inside : (table : List ℕ) (header : Header) → Fitting table header → (p : ℕ) → p < header.procedures
+pub body-inside : {table : List ℕ} {header : Header} → Sized table header → Fitting table → (p : ℕ) → p < header.procedures
     → body (decode table) p < nodes (decode table)
-body-inside table header f p low = f.bodies p (omega (arith, f.sized.procedures-read))
+body-inside s f p low = f.bodies p (omega (arith, s.procedures-read))
 
 emptied : {before after : List ℕ} → Topped before after None → after ≡ replicate 8 0
 emptied (empty was is) = is
 
-module _ (table : List ℕ) (header : Header) (f : Fitting table header) (p : ℕ) (l : body (decode table) p < nodes (decode table)) where
+module _ (table : List ℕ) (f : Fitting table) (p : ℕ) (l : body (decode table) p < nodes (decode table)) where
   abbrev root : ℕ
   root = body (decode table) p
 
@@ -93,7 +94,7 @@ module _ (table : List ℕ) (header : Header) (f : Fitting table header) (p : �
       ⊎_elim
       (λ (h : in_tree (decode table) n root ≡ true).
       ⊎_elim
-      (λ (s : may_call (decode table) n ≡ true). never (sym (waits table header f root l n inside m w s h) ∙ e))
+      (λ (s : may_call (decode table) n ≡ true). never (sym (waits table f root l n inside m w s h) ∙ e))
       (λ (s : may_call (decode table) n ≡ false). simp ((no_call (decode table) n s).1 p, or-true))
       (bool_cases (may_call (decode table) n)))
       (λ (h : in_tree (decode table) n root ≡ false). simp h)
@@ -102,7 +103,7 @@ module _ (table : List ℕ) (header : Header) (f : Fitting table header) (p : �
   walked-passed : (n : ℕ) → n < nodes (decode table) → (m : List ℕ) (low : ℕ) → Walked (decode table) p (n + 1) m low → bit_at m n ≡ false
       → Walked (decode table) p n m low
   walked-passed n inside m low w e = (
-    wait_passed table header f root l n inside m w.0 e,
+    wait_passed table f root l n inside m w.0 e,
     found_passed (own_calls (decode table) p) (nodes (decode table)) n low inside w.1 (own-passed n inside m w.0 e),
   )
 
@@ -130,7 +131,7 @@ module _ (table : List ℕ) (header : Header) (f : Fitting table header) (p : �
       → ((k : ℕ) → (k ≡ n → ⊥) → bit_at after k ≡ bit_at m k)
       → Walked (decode table) p n (leaves (decode table) n after) (answers (decode table) p n low)
   walked-taken n inside m low w after size marked gone same = (
-    wait_taken table header f root l n inside m w.0 after size marked gone same,
+    wait_taken table f root l n inside m w.0 after size marked gone same,
     ⊎_elim
         (λ (e : calls_below p (statement_at (decode table) n) ≡ true).
         simp e (found_passed (own_calls (decode table) p) (nodes (decode table)) n low inside w.1 (own_below n e)))
@@ -141,7 +142,7 @@ module _ (table : List ℕ) (header : Header) (f : Fitting table header) (p : �
   )
 
   walked_start : Walked (decode table) p (nodes (decode table)) (with_bit (replicate 8 0) root) (nodes (decode table))
-  walked_start = (wait_start table header f root l, found_none (own_calls (decode table) p) (nodes (decode table)))
+  walked_start = (wait_start table f root l, found_none (own_calls (decode table) p) (nodes (decode table)))
 
   topped-below : {before after : List ℕ} {next : Option ℕ} → Topped before after next → (k : ℕ) → above next ≤ k → k < 256
       → bit_at before k ≡ false

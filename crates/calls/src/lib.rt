@@ -11,9 +11,8 @@ ghost use Rattle.table.specs.Marks.{with_bit, with_bits};
 ghost use Rattle.table.specs.Uses.{Fitting};
 
 use rules::kinds::{BRANCH, CALL, LOOP, SEQUENCE};
-use table::Header;
+use table::Table;
 use table::marks::mark;
-use table::words::{body, kind_at, node_at};
 
 // Takes the highest node out of the first `from` words of the marks, if there is one.
 fn take_top(marks: &mut [u32], from: usize) -> Option<usize>
@@ -42,19 +41,19 @@ fn highest(marks: &mut [u32], n: usize) -> Option<usize>
 
 // Whether node n may hold a call: it is a sequence, a branch, a loop or a call.
 #[tactic(auto, unfolding(crate::specs::Walk::may_call))]
-fn may_call(table: &[u8], header: Header, n: usize) -> bool
-    requires { Fitting table.now header × (n < header.nodes) }
-    ensures { result ≡ may_call (decode table.now) n }
+fn may_call(table: &Table, n: usize) -> bool
+    requires { Fitting table.now.bytes.now × (n < table.now.header.nodes) }
+    ensures { result ≡ may_call (decode table.now.bytes.now) n }
 {
-    matches!(kind_at(table, header, n), SEQUENCE..=CALL)
+    matches!(table.kind_at(n), SEQUENCE..=CALL)
 }
 
 // Node n waits from now on if it may hold a call.
-fn wait(table: &[u8], header: Header, marks: &mut [u32], n: usize)
-    requires { Fitting table.now header × (n < header.nodes) × (length marks.old ≡ 8) }
-    ensures { marks.new ≡ with_bits marks.old (callers (decode table.now) (n ∷ [])) }
+fn wait(table: &Table, marks: &mut [u32], n: usize)
+    requires { Fitting table.now.bytes.now × (n < table.now.header.nodes) × (length marks.old ≡ 8) }
+    ensures { marks.new ≡ with_bits marks.old (callers (decode table.now.bytes.now) (n ∷ [])) }
 {
-    if may_call(table, header, n) {
+    if may_call(table, n) {
         mark(marks, n);
     }
 }
@@ -73,22 +72,15 @@ fn go_on(marks: &mut [u32], n: usize, a: usize) -> Option<usize>
 }
 
 // Parts a and b of node n wait if they may hold a call, and the highest of all is taken.
-fn on_to_either(
-    table: &[u8],
-    header: Header,
-    marks: &mut [u32],
-    n: usize,
-    a: usize,
-    b: usize,
-) -> Option<usize>
-    requires { Fitting table.now header × (n < header.nodes) × (a < n) × (b < n) × (length marks.old ≡ 8) × ClearFrom marks.old (n / 32 + 1) }
-    ensures { Topped (with_bits marks.old (callers (decode table.now) (a ∷ b ∷ []))) marks.new result }
+fn on_to_either(table: &Table, marks: &mut [u32], n: usize, a: usize, b: usize) -> Option<usize>
+    requires { Fitting table.now.bytes.now × (n < table.now.header.nodes) × (a < n) × (b < n) × (length marks.old ≡ 8) × ClearFrom marks.old (n / 32 + 1) }
+    ensures { Topped (with_bits marks.old (callers (decode table.now.bytes.now) (a ∷ b ∷ []))) marks.new result }
 {
-    if may_call(table, header, b) {
-        wait(table, header, marks, a);
+    if may_call(table, b) {
+        wait(table, marks, a);
         return go_on(marks, n, b);
     }
-    if may_call(table, header, a) {
+    if may_call(table, a) {
         return go_on(marks, n, a);
     }
     highest(marks, n)
@@ -96,25 +88,25 @@ fn on_to_either(
 
 // From node n on the way down: its statement parts that may hold a call wait from now on, and the highest is taken. The one part of a
 // loop stands for both.
-fn descend(table: &[u8], header: Header, marks: &mut [u32], n: usize) -> Option<usize>
-    requires { Fitting table.now header × (n < header.nodes) × (length marks.old ≡ 8) × ClearFrom marks.old (n / 32 + 1) }
-    ensures { Topped (with_bits marks.old (waiting (decode table.now) n)) marks.new result }
+fn descend(table: &Table, marks: &mut [u32], n: usize) -> Option<usize>
+    requires { Fitting table.now.bytes.now × (n < table.now.header.nodes) × (length marks.old ≡ 8) × ClearFrom marks.old (n / 32 + 1) }
+    ensures { Topped (with_bits marks.old (waiting (decode table.now.bytes.now) n)) marks.new result }
 {
-    let node = node_at(table, header, n);
+    let node = table.node_at(n);
     match node.kind {
-        SEQUENCE => on_to_either(table, header, marks, n, node.a as usize, node.b as usize),
-        BRANCH => on_to_either(table, header, marks, n, node.b as usize, node.c as usize),
-        LOOP => on_to_either(table, header, marks, n, node.b as usize, node.b as usize),
+        SEQUENCE => on_to_either(table, marks, n, node.a as usize, node.b as usize),
+        BRANCH => on_to_either(table, marks, n, node.b as usize, node.c as usize),
+        LOOP => on_to_either(table, marks, n, node.b as usize, node.b as usize),
         _ => highest(marks, n),
     }
 }
 
 // The lowest call so far that does not call below p, once node n is visited.
-fn lowest_call(table: &[u8], header: Header, p: usize, n: usize, lowest: usize) -> usize
-    requires { Fitting table.now header × (n < header.nodes) }
-    ensures { result ≡ cond (calls_below p (statement_at (decode table.now) n)) lowest n }
+fn lowest_call(table: &Table, p: usize, n: usize, lowest: usize) -> usize
+    requires { Fitting table.now.bytes.now × (n < table.now.header.nodes) }
+    ensures { result ≡ cond (calls_below p (statement_at (decode table.now.bytes.now) n)) lowest n }
 {
-    let node = node_at(table, header, n);
+    let node = table.node_at(n);
     if node.kind != CALL {
         return lowest;
     }
@@ -122,30 +114,30 @@ fn lowest_call(table: &[u8], header: Header, p: usize, n: usize, lowest: usize) 
 }
 
 // The first call in procedure p's tree that does not call below p.
-fn first_high_call(table: &[u8], header: Header, marks: &mut [u32], p: usize) -> usize
-    requires { Fitting table.now header × (p < header.procedures) × (marks.old ≡ replicate 8 0) }
-    ensures value { result ≡ first_failing (own_calls (decode table.now) p) (nodes (decode table.now)) }
+fn first_high_call(table: &Table, marks: &mut [u32], p: usize) -> usize
+    requires { Fitting table.now.bytes.now × (p < table.now.header.procedures) × (marks.old ≡ replicate 8 0) }
+    ensures value { result ≡ first_failing (own_calls (decode table.now.bytes.now) p) (nodes (decode table.now.bytes.now)) }
     ensures marks_after { marks.new ≡ replicate 8 0 }
 {
-    let mut lowest = header.nodes;
-    let mut next = Some(body(table, p));
+    let mut lowest = table.header.nodes;
+    let mut next = Some(table.body(p));
     while let Some(n) = next {
-        lowest = lowest_call(table, header, p, n, lowest);
-        next = descend(table, header, marks, n);
+        lowest = lowest_call(table, p, n, lowest);
+        next = descend(table, marks, n);
     }
     lowest
 }
 
 // The first call that does not call below its own procedure.
-pub fn first_miscalled(table: &[u8], header: Header, marks: &mut [u32]) -> usize
-    requires { Fitting table.now header × (marks.old ≡ replicate 8 0) }
-    ensures value { result ≡ first_failing (λ n. called_below (decode table.now) n (statement_at (decode table.now) n))
-        (nodes (decode table.now)) }
+pub fn first_miscalled(table: &Table, marks: &mut [u32]) -> usize
+    requires { Fitting table.now.bytes.now × (marks.old ≡ replicate 8 0) }
+    ensures value { result ≡ first_failing (λ n. called_below (decode table.now.bytes.now) n (statement_at (decode table.now.bytes.now) n))
+        (nodes (decode table.now.bytes.now)) }
     ensures marks_after { marks.new ≡ replicate 8 0 }
 {
-    let mut lowest = header.nodes;
-    for p in 0..header.procedures {
-        lowest = lowest.min(first_high_call(table, header, marks, p));
+    let mut lowest = table.header.nodes;
+    for p in 0..table.header.procedures {
+        lowest = lowest.min(first_high_call(table, marks, p));
     }
     lowest
 }

@@ -14,7 +14,6 @@ use Rattle.rules.specs.Table.{decode, statement_of, collective, barrier, broadca
 use Rattle.rules.proofs.ChoiceLaws.{bool_cases}
 use Rattle.rules.proofs.KindLaws.{barrier_of, broadcast_of, exchange_of, broadcast_fields, exchange_fields}
 use Rattle.rules.proofs.StackLaws.{StoresLow}
-use Rattle.table.specs.declared.Header.{Header}
 use Rattle.values.specs.Given.{Part}
 use Rattle.process.specs.Given.{is_collective, Topped}
 use Rattle.collectives.specs.Given.{collective_of}
@@ -48,8 +47,8 @@ module _ (m : Node) where
       ]
 
 -- what a process whose top statement is a collective evaluates
-module _ {table : List ℕ} {header : Header} {words : List ℕ} {count : ℕ} {m : Node}
-    (t : Topped table header words count m) where
+module _ {table : List ℕ} {words : List ℕ} {count : ℕ} {m : Node}
+    (t : Topped table words count m) where
   pub broadcast-fits : m.kind ≡ 24 → (m.a < variable_places) × Part (decode table) m.b × Part (decode table) m.c
   broadcast-fits e =
       let f = broadcast_fields (decode table) (top-formed t) (top words) m t.here e in

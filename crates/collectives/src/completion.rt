@@ -14,21 +14,20 @@ use process::stack::{pop, top};
 use rules::kinds::{BARRIER, BROADCAST, EXCHANGE};
 use rules::layout::{DEPTH_AT, PROCESS_WORDS, slot_at};
 use rules::{Arrival, Node};
-use table::Header;
+use table::Table;
 use values::evaluation::value_at;
 
 // "value and source are worked out on arrival"; "a field the kind lacks is 0"
 pub fn arrival_of(
-    table: &[u8],
-    header: Header,
+    table: &Table,
     words: &[u32],
     own: u32,
     count: u32,
     node: Node,
     arrival: Arrival,
 ) -> Arrival
-    requires { Topped table.now header words.now count node × (is_collective node.kind ≡ true) × (arrival.status ≡ Running) }
-    ensures { result ≡ arrival_of (decode table.now) (environment words.now own count)
+    requires { Topped table.now.bytes.now words.now count node × (is_collective node.kind ≡ true) × (arrival.status ≡ Running) }
+    ensures { result ≡ arrival_of (decode table.now.bytes.now) (environment words.now own count)
         (top words.now) (collective_of node) }
 {
     let n = top(words);
@@ -36,11 +35,11 @@ pub fn arrival_of(
         return arrival.arrive(n, 0, 0);
     }
     if node.kind == EXCHANGE {
-        let value = value_at(table, header, words, own, count, node.a as usize);
+        let value = value_at(table, words, own, count, node.a as usize);
         return arrival.arrive(n, value, 0);
     }
-    let value = value_at(table, header, words, own, count, node.b as usize);
-    let source = value_at(table, header, words, own, count, node.c as usize);
+    let value = value_at(table, words, own, count, node.b as usize);
+    let source = value_at(table, words, own, count, node.c as usize);
     arrival.arrive(n, value, source)
 }
 

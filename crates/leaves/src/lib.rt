@@ -14,9 +14,8 @@ ghost use Rattle.visit.specs.Fields.{facts_plane, leaves_plane, all_planes, plan
 ghost use Rattle.visit.specs.Least.{none, code};
 
 use rules::kinds::{BRANCH, LEAVE, LOOP, SEQUENCE};
-use table::Header;
+use table::Table;
 use table::marks::{clear, mark, marked, none_marked};
-use table::words::{kind_at, node_at};
 use visit::facts::fact;
 use visit::least::{NONE, lesser, worse};
 use visit::noted::note_leave;
@@ -86,24 +85,24 @@ fn left_by_leave(planes: &[u32], n: usize, b: u32) -> usize
     }
 }
 
-fn pass_node(table: &[u8], header: Header, planes: &mut [u32], n: usize) -> usize
-    requires { Passing well_built table.now header × (n < nodes (decode table.now)) × (length planes.old ≡ all_planes) }
-    ensures { NodePassed (decode table.now) n planes.old planes.new result }
+fn pass_node(table: &Table, planes: &mut [u32], n: usize) -> usize
+    requires { Passing well_built table.now.bytes.now × (n < nodes (decode table.now.bytes.now)) × (length planes.old ≡ all_planes) }
+    ensures { NodePassed (decode table.now.bytes.now) n planes.old planes.new result }
 {
-    match kind_at(table, header, n) {
+    match table.kind_at(n) {
         SEQUENCE => {
-            let node = node_at(table, header, n);
+            let node = table.node_at(n);
             join(planes, n, false, node.a, node.b);
             NONE
         }
         BRANCH => {
-            let node = node_at(table, header, n);
+            let node = table.node_at(n);
             let local = fact(planes, node.a);
             join(planes, n, local, node.b, node.c);
             NONE
         }
         LOOP => {
-            let node = node_at(table, header, n);
+            let node = table.node_at(n);
             left_by_leave(planes, n, node.b)
         }
         LEAVE => {
@@ -116,20 +115,21 @@ fn pass_node(table: &[u8], header: Header, planes: &mut [u32], n: usize) -> usiz
 
 // The nodes from `first` up to `end`, and the least refusal on from `start`.
 pub fn pass_nodes(
-    table: &[u8],
-    header: Header,
+    table: &Table,
     planes: &mut [u32],
     start: usize,
     first: usize,
     end: usize,
 ) -> usize
-    requires { Passing well_built table.now header × (start ≤ none) × (length planes.old ≡ all_planes) × (first ≤ end)
-        × (end ≤ nodes (decode table.now)) }
-    ensures { NodesPassed (decode table.now) first end start planes.old planes.new result }
+    requires { Passing well_built table.now.bytes.now × (start ≤ none) × (length planes.old ≡ all_planes) × (first ≤ end)
+        × (end ≤ nodes (decode table.now.bytes.now)) }
+    ensures { NodesPassed (decode table.now.bytes.now) first end start planes.old planes.new result }
 {
+    // A copy of its own: behind the pointer the loop would read bytes and counts again each turn.
+    let own = *table;
     let mut least = start;
     for n in first..end {
-        least = lesser(least, pass_node(table, header, planes, n));
+        least = lesser(least, pass_node(&own, planes, n));
     }
     least
 }
@@ -144,14 +144,14 @@ pub fn clear_leaves(planes: &mut [u32])
 }
 
 // The least refusal once 16 is asked of whiles that are left locally; which nodes hold a leave is kept.
-pub fn pass_leaves(table: &[u8], header: Header, planes: &mut [u32], rule: usize) -> usize
-    requires passing { Passing well_built table.now header × (rule ≤ none) × (length planes.old ≡ all_planes) }
-    requires noted_to { NotedTo (decode table.now) (nodes (decode table.now)) (leaves_plane planes.old) }
-    ensures { LeavesPassed (decode table.now) (statement_at (decode table.now)) rule planes.old planes.new result }
+pub fn pass_leaves(table: &Table, planes: &mut [u32], rule: usize) -> usize
+    requires passing { Passing well_built table.now.bytes.now × (rule ≤ none) × (length planes.old ≡ all_planes) }
+    requires noted_to { NotedTo (decode table.now.bytes.now) (nodes (decode table.now.bytes.now)) (leaves_plane planes.old) }
+    ensures { LeavesPassed (decode table.now.bytes.now) (statement_at (decode table.now.bytes.now)) rule planes.old planes.new result }
 {
     if none_marked(&planes[LEAVES..PLANES]) {
         return rule;
     }
     clear_leaves(planes);
-    pass_nodes(table, header, planes, rule, 0, header.nodes)
+    pass_nodes(table, planes, rule, 0, table.header.nodes)
 }

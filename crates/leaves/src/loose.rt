@@ -12,52 +12,51 @@ ghost use Rattle.visit.specs.Fields.{leaves_plane, all_planes};
 use crate::holds;
 use loops::nearest_loop;
 use rules::kinds::LEAVE;
-use table::Header;
-use table::words::{body, kind_at};
+use table::Table;
 
 // Whether the body of procedure p holds no leave.
-fn body_closed(table: &[u8], header: Header, planes: &[u32], p: usize) -> bool
-    requires { Passing well_built table.now header × (length planes.now ≡ all_planes) × (p < header.procedures) }
-    ensures { result ≡ not (bit_at (leaves_plane planes.now) (body (decode table.now) p % 256)) }
+fn body_closed(table: &Table, planes: &[u32], p: usize) -> bool
+    requires { Passing well_built table.now.bytes.now × (length planes.now ≡ all_planes) × (p < table.now.header.procedures) }
+    ensures { result ≡ not (bit_at (leaves_plane planes.now) (body (decode table.now.bytes.now) p % 256)) }
 {
-    !holds(planes, body(table, p) as u32)
+    !holds(planes, table.body(p) as u32)
 }
 
-fn bodies_closed(table: &[u8], header: Header, planes: &[u32]) -> bool
-    requires { Passing well_built table.now header × (length planes.now ≡ all_planes) }
-    ensures { result ≡ all_below (λ p. not (bit_at (leaves_plane planes.now) (body (decode table.now) p % 256)))
-        (procedures (decode table.now)) }
+fn bodies_closed(table: &Table, planes: &[u32]) -> bool
+    requires { Passing well_built table.now.bytes.now × (length planes.now ≡ all_planes) }
+    ensures { result ≡ all_below (λ p. not (bit_at (leaves_plane planes.now) (body (decode table.now.bytes.now) p % 256)))
+        (procedures (decode table.now.bytes.now)) }
 {
-    (0..header.procedures).all(|p| body_closed(table, header, planes, p))
+    (0..table.header.procedures).all(|p| body_closed(table, planes, p))
 }
 
-fn enclosed(table: &[u8], header: Header, n: usize) -> bool
-    requires { Passing well_built table.now header × (n < nodes (decode table.now)) }
-    ensures { result ≡ leave_enclosed (decode table.now) n }
+fn enclosed(table: &Table, n: usize) -> bool
+    requires { Passing well_built table.now.bytes.now × (n < nodes (decode table.now.bytes.now)) }
+    ensures { result ≡ leave_enclosed (decode table.now.bytes.now) n }
 {
-    kind_at(table, header, n) != LEAVE || nearest_loop(table, header, n) < header.nodes
+    table.kind_at(n) != LEAVE || nearest_loop(table, n) < table.header.nodes
 }
 
-fn first_open(table: &[u8], header: Header) -> usize
-    requires { Passing well_built table.now header }
-    ensures { result ≡ first_failing (leave_enclosed (decode table.now)) (nodes (decode table.now)) }
+fn first_open(table: &Table) -> usize
+    requires { Passing well_built table.now.bytes.now }
+    ensures { result ≡ first_failing (leave_enclosed (decode table.now.bytes.now)) (nodes (decode table.now.bytes.now)) }
 {
-    for n in 0..header.nodes {
-        if !enclosed(table, header, n) {
+    for n in 0..table.header.nodes {
+        if !enclosed(table, n) {
             return n;
         }
     }
-    header.nodes
+    table.header.nodes
 }
 
 // The first leave with no while around it, in a table whose nodes are all visited.
-pub fn first_loose(table: &[u8], header: Header, planes: &[u32]) -> usize
-    requires passing { Passing well_built table.now header × (length planes.now ≡ all_planes) }
-    requires held_to { HeldTo (decode table.now) (statement_at (decode table.now)) (nodes (decode table.now)) (leaves_plane planes.now) }
-    ensures { result ≡ first_failing (leave_enclosed (decode table.now)) (nodes (decode table.now)) }
+pub fn first_loose(table: &Table, planes: &[u32]) -> usize
+    requires passing { Passing well_built table.now.bytes.now × (length planes.now ≡ all_planes) }
+    requires held_to { HeldTo (decode table.now.bytes.now) (statement_at (decode table.now.bytes.now)) (nodes (decode table.now.bytes.now)) (leaves_plane planes.now) }
+    ensures { result ≡ first_failing (leave_enclosed (decode table.now.bytes.now)) (nodes (decode table.now.bytes.now)) }
 {
-    if bodies_closed(table, header, planes) {
-        return header.nodes;
+    if bodies_closed(table, planes) {
+        return table.header.nodes;
     }
-    first_open(table, header)
+    first_open(table)
 }

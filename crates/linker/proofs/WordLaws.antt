@@ -5,32 +5,29 @@ use mathlib.Core.Path.{◌≡◌, refl, sym, ◌∙◌, ap}
 use Prim.Native.Nat.{ℕ, zero, suc, ◌+◌, ◌-◌, ◌*◌, ◌^◌, ◌≤◌, ◌<◌, max}
 use native.Mathlib.Decide.{dec_lt}
 use native.Mathlib.Omega.{arith}
-use lib.ListN.{length, get_or, replicate, get_or-replicate, get_or-eq_default}
+use lib.ListN.{get_or, replicate, get_or-replicate, get_or-eq_default}
 use lib.Seq.{get_or-drop}
-use Rattle.linker.specs.declared.Counts.{Counts}
-use Rattle.linker.specs.Linking.{Joined, part_at, joined_nodes, joined_bytes, renumbered, renamed, linked, joinable}
-use Rattle.linker.specs.Given.{Pair, Joinable, Fitting, nodes_of, bytes_of, Movable, body_unit, part_units}
-use Rattle.linker.specs.Given.{moved_procedure, node_behind, moved_node}
+use Rattle.linker.specs.declared.both.Both.{Both}
+use Rattle.linker.specs.Linking.{part_at, joined_nodes, joined_bytes, renumbered, renamed, linked}
+use Rattle.linker.specs.Given.{library_of, program_of, Joinable, bodies_behind, nodes_behind, nodes_of, bytes_of, Movable}
+use Rattle.linker.specs.Given.{body_unit, part_units, procedure_behind, moved_procedure, node_behind, moved_node}
 use Rattle.linker.proofs.LinkFormed.{linked-fit}
-use Rattle.linker.proofs.LinkLaws.{Links, both_formed, links, link-procedures, link-nodes, stubs-below, part-high, body-high}
+use Rattle.linker.proofs.LinkLaws.{Links, links, link-procedures, link-nodes, stubs-below, part-high, body-high}
 use Rattle.linker.proofs.LinkLaws.{flagged_library, flagged-own, flagged-program, flag_library, flag_own}
 use Rattle.linker.proofs.LinkLaws.{body_library, body-program, node_library, node-behind}
-use Rattle.linker.proofs.PairLaws.{pair_of}
 use Rattle.linker.proofs.RenameLaws.{node_parts, named, unknown_part}
 use Rattle.rules.specs.declared.Node.{Node}
 use Rattle.rules.specs.Encoding.{header_word, flag_bits, body_word, packed, word_of}
 use Rattle.rules.specs.Evaluation.{bit}
-use Rattle.rules.specs.Table.{Program, decode, word_at, variables, procedures, nodes, flagged, body, effect_flag}
+use Rattle.rules.specs.Table.{Program, word_at, variables, procedures, nodes, flagged, body, effect_flag}
 use Rattle.rules.specs.Table.{unpacked, node_at, expression_of, statement_of, expression_at, statement_at}
 use Rattle.rules.specs.WellFormed.{most_table_bytes, parts_at}
 use Rattle.rules.proofs.AnywhereLaws.{In}
 use Rattle.rules.proofs.EncodingLaws.{bit-low, word_of-procedure, word_of-node}
 use Rattle.rules.proofs.Formed.{well-passes}
 use Rattle.rules.proofs.ReencodingLaws.{packed-unpacked, word_1, word-procedure, word-node}
-use Rattle.table.specs.Header.{header_of}
-use Rattle.table.proofs.PassingLaws.{read-sized}
+use Rattle.table.specs.Sized.{Sized}
 use Rattle.table.proofs.RoleLaws.{listed, Each, none, ◌also◌, each-kind, node}
-use Rattle.table.proofs.ShapeLaws.{read-variables, read-procedures, read-nodes}
 
 -- what a 1 in each part counts, by kind
 unfoldable pub units : List ℕ
@@ -124,144 +121,123 @@ unfolding flag_bits
 flags-same first second same zero = refl
 flags-same first second same (suc n) = simp (flags-same first second same n, same n)
 
-pub joinable-by : {library program : List ℕ} {both : Counts} → joinable library program ≡ Joined
-    → (both.library ≡ header_of library) × (both.program ≡ header_of program) → Joinable library program both
-joinable-by passed headed = record { passed = passed; headed_library = headed.0; headed-program = headed.1 }
-
-module _ {library program : List ℕ} {both : Counts} (j : Joinable library program both) where
+module _ (both : Both) (j : Joinable both) where
   abbrev J : Program
-  J = linked (decode library) (decode program)
+  J = linked (library_of both) (program_of both)
 
-  pub pair : Pair library program both
-  pair =
-      let formed = both_formed library program j.passed in
-      pair_of formed.0 formed.1 (j.headed_library, j.headed-program)
+  pub linked_up : Links (library_of both) (program_of both)
+  linked_up = links both.library.bytes.now both.program.bytes.now j
 
-  pub linked_up : Links (decode library) (decode program)
-  linked_up = links library program j.passed
+  own : Sized both.library.bytes.now both.library.header
+  own = both.library.sized
 
-  own-variables : both.library.variables ≡ variables (decode library)
-  own-variables = read-variables library both.library j.headed_library
+  its : Sized both.program.bytes.now both.program.header
+  its = both.program.sized
 
-  own-procedures : both.library.procedures ≡ procedures (decode library)
-  own-procedures = read-procedures library both.library j.headed_library
+  -- the program has a procedure and a node for each stub
+  pub procedures-there : both.library.header.procedures ≤ both.program.header.procedures
+  procedures-there = omega (arith, own.procedures-read, its.procedures-read, linked_up.left)
 
-  own-nodes : both.library.nodes ≡ nodes (decode library)
-  own-nodes = read-nodes library both.library j.headed_library
+  pub nodes-there : both.library.header.procedures ≤ both.program.header.nodes
+  nodes-there = omega (arith, own.procedures-read, its.nodes-read, stubs-below linked_up)
 
-  its_variables : both.program.variables ≡ variables (decode program)
-  its_variables = read-variables program both.program j.headed-program
-
-  its_procedures : both.program.procedures ≡ procedures (decode program)
-  its_procedures = read-procedures program both.program j.headed-program
-
-  its_nodes : both.program.nodes ≡ nodes (decode program)
-  its_nodes = read-nodes program both.program j.headed-program
-
-  pub counts-fit : Fitting both
-  counts-fit =
-      let own = linked_up.of_library.bounds in
-      let its = linked_up.of_program.bounds in
-      record {
-        library_variables = omega (arith, own-variables, own.variables-high);
-        program-variables = omega (arith, its_variables, its.variables-high);
-        library_procedures = omega (arith, own-procedures, own.procedures-high);
-        program-procedures = omega (arith, its_procedures, its.procedures-high);
-        library_nodes = omega (arith, own-nodes, own.nodes-high);
-        program-nodes = omega (arith, its_nodes, its.nodes-high);
-        stubs-there = omega (arith, own-procedures, its_nodes, stubs-below linked_up);
-      }
-
-  pub stubs_fewer : both.library.procedures ≤ both.program.procedures
-  stubs_fewer = omega (arith, own-procedures, its_procedures, linked_up.left)
-
-  pub library_size : length library ≡ 4 * (2 + both.library.procedures + both.library.nodes)
-  library_size = rw (own-procedures, own-nodes) (read-sized pair.of_library).size
-
-  pub program-size : length program ≡ 4 * (2 + both.program.procedures + both.program.nodes)
-  program-size = rw (its_procedures, its_nodes) (read-sized pair.of_program).size
-
-  pub counted : 2 + both.program.procedures + both.library.nodes + (both.program.nodes - both.library.procedures)
-      ≡ 2 + procedures (linked (decode library) (decode program)) + nodes (linked (decode library) (decode program))
+  pub counted : 2 + both.program.header.procedures + both.library.header.nodes + nodes_behind both
+      ≡ 2 + procedures (linked (library_of both) (program_of both)) + nodes (linked (library_of both) (program_of both))
   counted =
-      rw (link-procedures linked_up, link-nodes linked_up, own-procedures, own-nodes, its_procedures, its_nodes) (omega arith)
+      omega (
+        arith,
+        link-procedures linked_up,
+        link-nodes linked_up,
+        own.procedures-read,
+        own.nodes-read,
+        its.procedures-read,
+        its.nodes-read,
+      )
 
   -- word 0 and word 1
 
-  pub header-joined : word_of (linked (decode library) (decode program)) 0
-      ≡ 2 ^ 28 + max both.library.variables both.program.variables * 2 ^ 22 + both.program.procedures * 2 ^ 17
-      + nodes_of both * 2 ^ 8
+  pub header-joined : word_of (linked (library_of both) (program_of both)) 0
+      ≡ 2 ^ 28 + max both.library.header.variables both.program.header.variables * 2 ^ 22
+      + both.program.header.procedures * 2 ^ 17 + nodes_of both * 2 ^ 8
   unfolding word_of header_word variables procedures nodes linked joined_nodes
-  header-joined = rw (own-variables, its_variables, own-procedures, own-nodes, its_procedures, its_nodes)
+  header-joined =
+      rw (
+        own.variables-read,
+        its.variables-read,
+        own.procedures-read,
+        own.nodes-read,
+        its.procedures-read,
+        its.nodes-read,
+      )
 
-  pub flags-program : both.library.variables < both.program.variables → word_at program 1 < 2 ^ 32
-      → flag_bits (flagged (linked (decode library) (decode program))) 32 ≡ word_at program 1
+  pub flags-program : both.library.header.variables < both.program.header.variables → word_at both.program.bytes.now 1 < 2 ^ 32
+      → flag_bits (flagged (linked (library_of both) (program_of both))) 32 ≡ word_at both.program.bytes.now 1
   flags-program l fits =
-      flags-same (flagged J) (flagged (decode program))
-      (λ v. elim (dec_lt v (variables (decode program))) [
+      flags-same (flagged J) (flagged (program_of both))
+      (λ v. elim (dec_lt v (variables (program_of both))) [
         | yes b ↦ flagged-program linked_up v b
-        | no m ↦ flagged-own linked_up v (omega (arith, own-variables, its_variables))
+        | no m ↦ flagged-own linked_up v (omega (arith, own.variables-read, its.variables-read))
       ])
       32
-      ∙ word_1 program (well-passes program pair.of_program.passed) fits
+      ∙ word_1 both.program.bytes.now (well-passes both.program.bytes.now both.program_formed) fits
 
-  pub flags_library : both.program.variables ≤ both.library.variables → word_at library 1 < 2 ^ 32
-      → flag_bits (flagged (linked (decode library) (decode program))) 32 ≡ word_at library 1
+  pub flags_library : both.program.header.variables ≤ both.library.header.variables → word_at both.library.bytes.now 1 < 2 ^ 32
+      → flag_bits (flagged (linked (library_of both) (program_of both))) 32 ≡ word_at both.library.bytes.now 1
   flags_library h fits =
-      flags-same (flagged J) (flagged (decode library))
-      (λ v. elim (dec_lt v (variables (decode library))) [
+      flags-same (flagged J) (flagged (library_of both))
+      (λ v. elim (dec_lt v (variables (library_of both))) [
         | yes b ↦ flagged_library linked_up v b
         | no m ↦
             flagged-own linked_up v (omega arith)
-            ∙ (linked_up.of_program.bounds.flags_off v (omega (arith, own-variables, its_variables))
+            ∙ (linked_up.of_program.bounds.flags_off v (omega (arith, own.variables-read, its.variables-read))
             ∙ sym (linked_up.of_library.bounds.flags_off v (omega arith)))
       ])
       32
-      ∙ word_1 library (well-passes library pair.of_library.passed) fits
+      ∙ word_1 both.library.bytes.now (well-passes both.library.bytes.now both.library_formed) fits
 
   -- procedures
 
-  pub procedure-kept : (p : ℕ) → p < both.library.procedures
-      → word_at library (2 + p) ≡ word_of (linked (decode library) (decode program)) (2 + p)
+  pub procedure-kept : (p : ℕ) → p < both.library.header.procedures
+      → word_at both.library.bytes.now (2 + p) ≡ word_of (linked (library_of both) (program_of both)) (2 + p)
   procedure-kept p l =
-      let here : p < procedures (decode library) = omega (arith, own-procedures) in
+      let here : p < procedures (library_of both) = omega (arith, own.procedures-read) in
       sym
       (word_of-procedure J p (omega (arith, link-procedures linked_up, linked_up.left))
       ∙ (ap (λ b. body_word b (effect_flag J p)) (body_library linked_up p here)
-      ∙ (ap (body_word (body (decode library) p)) (flag_library linked_up p here)
-      ∙ word-procedure library (well-passes library pair.of_library.passed) p here)))
+      ∙ (ap (body_word (body (library_of both) p)) (flag_library linked_up p here)
+      ∙ word-procedure both.library.bytes.now (well-passes both.library.bytes.now both.library_formed) p here)))
 
-  module _ (k : ℕ) (l : k < both.program.procedures - both.library.procedures) where
+  module _ (k : ℕ) (l : k < bodies_behind both) where
     abbrev p : ℕ
-    p = both.library.procedures + k
+    p = both.library.header.procedures + k
 
-    other : procedures (decode library) ≤ p
-    other = omega (arith, own-procedures)
+    other : procedures (library_of both) ≤ p
+    other = omega (arith, own.procedures-read)
 
-    there : p < procedures (decode program)
-    there = omega (arith, its_procedures)
+    there : p < procedures (program_of both)
+    there = omega (arith, its.procedures-read)
 
-    its_word : word_at program (2 + both.library.procedures + k)
-        ≡ body (decode program) p * 2 ^ 24 + bit (effect_flag (decode program) p) * 2 ^ 23
+    its_word : procedure_behind both k
+        ≡ body (program_of both) p * 2 ^ 24 + bit (effect_flag (program_of both) p) * 2 ^ 23
     unfolding body_word
     its_word =
-        let place : 2 + both.library.procedures + k ≡ 2 + p = omega arith in
-        rw place (sym (word-procedure program (well-passes program pair.of_program.passed) p there))
+        let place : 2 + both.library.header.procedures + k ≡ 2 + p = omega arith in
+        rw place (sym (word-procedure both.program.bytes.now (well-passes both.program.bytes.now both.program_formed) p there))
 
-    moves : (body_word (body J p) (effect_flag J p) ≡ moved_procedure both program k)
-        × (both.library.procedures * body_unit ≤ word_at program (2 + both.library.procedures + k))
+    moves : (body_word (body J p) (effect_flag J p) ≡ moved_procedure both k)
+        × (both.library.header.procedures * body_unit ≤ procedure_behind both k)
     unfolding body_word
     moves =
         rw (body-program linked_up p other there, flag_own linked_up p other, its_word)
-        (body-moved (decode library) (decode program) both.library.procedures both.library.nodes own-procedures own-nodes
-        (body (decode program) p) (bit (effect_flag (decode program) p) * 2 ^ 23) (body-high linked_up p other there))
+        (body-moved (library_of both) (program_of both) _ _ own.procedures-read own.nodes-read
+        (body (program_of both) p) (bit (effect_flag (program_of both) p) * 2 ^ 23) (body-high linked_up p other there))
 
-    pub procedure-moved : moved_procedure both program k
-        ≡ word_of (linked (decode library) (decode program)) (2 + both.library.procedures + k)
+    pub procedure-moved : moved_procedure both k
+        ≡ word_of (linked (library_of both) (program_of both)) (2 + both.library.header.procedures + k)
     procedure-moved =
         sym (word_of-procedure J p (omega (arith, link-procedures linked_up, there)) ∙ moves.0) ∙ ap (word_of J) (omega arith)
 
-    pub procedure_movable : Movable both body_unit (word_at program (2 + both.library.procedures + k))
+    pub procedure_movable : Movable both body_unit (procedure_behind both k)
     unfolding body_word
     procedure_movable =
         let below = (linked-fit linked_up).bodies-fit p (omega (arith, link-procedures linked_up, there)) in
@@ -269,44 +245,46 @@ module _ {library program : List ℕ} {both : Counts} (j : Joinable library prog
 
   -- nodes
 
-  pub node_kept : (n : ℕ) → n < both.library.nodes
-      → word_at library (2 + both.library.procedures + n)
-      ≡ word_of (linked (decode library) (decode program)) (2 + both.program.procedures + n)
+  pub node_kept : (n : ℕ) → n < both.library.header.nodes
+      → word_at both.library.bytes.now (2 + both.library.header.procedures + n)
+      ≡ word_of (linked (library_of both) (program_of both)) (2 + both.program.header.procedures + n)
   node_kept n l =
-      rw (own-procedures, its_procedures, ← link-procedures linked_up)
+      rw (own.procedures-read, its.procedures-read, ← link-procedures linked_up)
       (sym
       (word_of-node J n
-      ∙ (ap packed (node_library linked_up n (omega (arith, own-nodes))) ∙ word-node library n)))
+      ∙ (ap packed (node_library linked_up n (omega (arith, own.nodes-read))) ∙ word-node both.library.bytes.now n)))
 
-  module _ (k : ℕ) (l : k < both.program.nodes - both.library.procedures) where
+  module _ (k : ℕ) (l : k < nodes_behind both) where
     abbrev m : Node
-    m = node_behind both program k
+    m = node_behind both k
 
-    new : node_at J (both.library.nodes + k) ≡ renamed (renumbered (decode library) (decode program)) m
+    new : node_at J (both.library.header.nodes + k) ≡ renamed (renumbered (library_of both) (program_of both)) m
     new =
-        let back : procedures (decode library) + (both.library.nodes + k - nodes (decode library)) ≡ both.library.procedures + k =
-        omega (arith, own-nodes, own-procedures) in
-        node-behind linked_up (both.library.nodes + k) (omega (arith, own-nodes))
-        ∙ ap (λ n. renamed (renumbered (decode library) (decode program)) (node_at (decode program) n)) back
+        let back : procedures (library_of both) + (both.library.header.nodes + k - nodes (library_of both))
+        ≡ both.library.header.procedures + k =
+        omega (arith, own.nodes-read, own.procedures-read) in
+        node-behind linked_up (both.library.header.nodes + k) (omega (arith, own.nodes-read))
+        ∙ ap (λ n. renamed (renumbered (library_of both) (program_of both)) (node_at (program_of both) n)) back
 
-    moved : (packed (renamed (renumbered (decode library) (decode program)) m) ≡ moved_node both m)
-        × (both.library.procedures * part_units m ≤ packed m)
+    moved : (packed (renamed (renumbered (library_of both) (program_of both)) m) ≡ moved_node both m)
+        × (both.library.header.procedures * part_units m ≤ packed m)
     unfolding parts_at expression_at statement_at
     moved =
-        node-moved (decode library) (decode program) both.library.procedures both.library.nodes own-procedures own-nodes m
-        (part-high linked_up (both.library.procedures + k))
+        node-moved (library_of both) (program_of both) _ _ own.procedures-read own.nodes-read m
+        (part-high linked_up (both.library.header.procedures + k))
 
-    pub node-moves : moved_node both (node_behind both program k)
-        ≡ word_of (linked (decode library) (decode program)) (2 + both.program.procedures + both.library.nodes + k)
+    pub node-moves : moved_node both (node_behind both k)
+        ≡ word_of (linked (library_of both) (program_of both))
+        (2 + both.program.header.procedures + both.library.header.nodes + k)
     node-moves =
-        sym (word_of-node J (both.library.nodes + k) ∙ (ap packed new ∙ moved.0))
-        ∙ ap (word_of J) (omega (arith, its_procedures, link-procedures linked_up))
+        sym (word_of-node J (both.library.header.nodes + k) ∙ (ap packed new ∙ moved.0))
+        ∙ ap (word_of J) (omega (arith, its.procedures-read, link-procedures linked_up))
 
-    pub node_movable : Movable both (part_units (node_behind both program k)) (packed (node_behind both program k))
+    pub node_movable : Movable both (part_units (node_behind both k)) (packed (node_behind both k))
     unfolding packed
     node_movable =
-        let n = both.library.nodes + k in
-        let here : n < nodes J = omega (arith, link-nodes linked_up, own-nodes, its_nodes, own-procedures) in
+        let n = both.library.header.nodes + k in
+        let here : n < nodes J = omega (arith, link-nodes linked_up, own.nodes-read, its.nodes-read, own.procedures-read) in
         let kind = (linked-fit linked_up).kinds_fit n here in
         let fields = (linked-fit linked_up).fields_fit n here in
         let whole : packed (node_at J n) ≡ moved_node both m = ap packed new ∙ moved.0 in
@@ -314,9 +292,9 @@ module _ {library program : List ℕ} {both : Counts} (j : Joinable library prog
 
   -- the length
 
-  pub bytes-joined : bytes_of both ≡ joined_bytes (decode library) (decode program)
+  pub bytes-joined : bytes_of both ≡ joined_bytes (library_of both) (program_of both)
   unfolding joined_nodes
-  bytes-joined = rw (own-procedures, own-nodes, its_procedures, its_nodes)
+  bytes-joined = rw (own.procedures-read, own.nodes-read, its.procedures-read, its.nodes-read)
 
   pub bytes-few : bytes_of both ≤ most_table_bytes
   unfolding joined_nodes

@@ -1,49 +1,44 @@
--- What the code is given: the counts of both tables, and what was asked of them.
-use Rattle.std.specs.Prelude.{List, ◌≡◌, ℕ, ◌+◌, ◌-◌, ◌*◌, ◌^◌, ◌≤◌, ◌<◌}
-use Rattle.linker.specs.declared.Counts.{Counts}
+-- What the code is given, the two tables with their counts, and what it works out of these.
+use Rattle.std.specs.Prelude.{◌≡◌, ℕ, ◌+◌, ◌-◌, ◌*◌, ◌^◌, ◌≤◌, ◌<◌}
+use Rattle.linker.specs.declared.both.Both.{Both}
 use Rattle.linker.specs.Linking.{Joined, part_at, joinable}
 use Rattle.rules.specs.declared.Node.{Node}
 use Rattle.rules.specs.Encoding.{packed}
 use Rattle.rules.specs.Evaluation.{bit}
-use Rattle.rules.specs.Table.{decode, word_at, node_at}
-use Rattle.rules.specs.WellFormed.{well_formed}
-use Rattle.table.specs.Header.{header_of, Passing}
+use Rattle.rules.specs.Table.{Program, decode, word_at, node_at}
 
--- both tables pass 2 to 12 and 26
-pub record Pair (library program : List ℕ) (both : Counts) : Type 0 where
-  pub of_library : Passing well_formed library both.library
-  pub of_program : Passing well_formed program both.program
+-- what the two tables say
+abbrev pub library_of : Both → Program
+library_of both = decode both.library.bytes.now
 
--- and 27 to 29 as well
-pub record Joinable (library program : List ℕ) (both : Counts) : Type 0 where
-  pub passed : joinable library program ≡ Joined
-  pub headed_library : both.library ≡ header_of library
-  pub headed-program : both.program ≡ header_of program
+abbrev pub program_of : Both → Program
+program_of both = decode both.program.bytes.now
 
--- what that says of the counts: those of a table, and the program has a node for each stub
-pub record Fitting (both : Counts) : Type 0 where
-  pub library_variables : both.library.variables ≤ 32
-  pub program-variables : both.program.variables ≤ 32
-  pub library_procedures : both.library.procedures ≤ 16
-  pub program-procedures : both.program.procedures ≤ 16
-  pub library_nodes : both.library.nodes ≤ 256
-  pub program-nodes : both.program.nodes ≤ 256
-  pub stubs-there : both.library.procedures ≤ both.program.nodes
+-- they pass 27 to 29 as well
+abbrev pub Joinable : Both → Type 0
+Joinable both = joinable both.library.bytes.now both.program.bytes.now ≡ Joined
+
+-- how many procedures and nodes the program has behind its stubs
+abbrev pub bodies_behind : Both → ℕ
+bodies_behind both = both.program.header.procedures - both.library.header.procedures
+
+abbrev pub nodes_behind : Both → ℕ
+nodes_behind both = both.program.header.nodes - both.library.header.procedures
 
 -- the nodes and the length of the joined table, by the counts
-abbrev pub nodes_of : Counts → ℕ
-nodes_of both = both.library.nodes + (both.program.nodes - both.library.procedures)
+abbrev pub nodes_of : Both → ℕ
+nodes_of both = both.library.header.nodes + nodes_behind both
 
-abbrev pub bytes_of : Counts → ℕ
-bytes_of both = 4 * (2 + both.program.procedures + nodes_of both)
+abbrev pub bytes_of : Both → ℕ
+bytes_of both = 4 * (2 + both.program.header.procedures + nodes_of both)
 
 -- a word whose nodes are renumbered, of which a 1 counts `one` in the word: L less, and the library's nodes more
-abbrev pub moved_word : Counts → ℕ → ℕ → ℕ
-moved_word both one word = word - both.library.procedures * one + both.library.nodes * one
+abbrev pub moved_word : Both → ℕ → ℕ → ℕ
+moved_word both one word = word - both.library.header.procedures * one + both.library.header.nodes * one
 
 -- its nodes are no stubs, and stay in their bits
-abbrev pub Movable : Counts → ℕ → ℕ → Type 0
-Movable both one word = (both.library.procedures * one ≤ word) × (moved_word both one word < 2 ^ 32)
+abbrev pub Movable : Both → ℕ → ℕ → Type 0
+Movable both one word = (both.library.header.procedures * one ≤ word) × (moved_word both one word < 2 ^ 32)
 
 -- what a 1 of its body counts in a procedure's word, and a 1 of each of its parts in a node's
 abbrev pub body_unit : ℕ
@@ -53,11 +48,14 @@ unfoldable pub part_units : Node → ℕ
 part_units m = bit (part_at m 0) * 2 ^ 18 + bit (part_at m 1) * 2 ^ 9 + bit (part_at m 2)
 
 -- the program's words behind its stubs: of procedure L + k, and of node L + k
-abbrev pub moved_procedure : Counts → List ℕ → ℕ → ℕ
-moved_procedure both program k = moved_word both body_unit (word_at program (2 + both.library.procedures + k))
+abbrev pub procedure_behind : Both → ℕ → ℕ
+procedure_behind both k = word_at both.program.bytes.now (2 + both.library.header.procedures + k)
 
-abbrev pub node_behind : Counts → List ℕ → ℕ → Node
-node_behind both program k = node_at (decode program) (both.library.procedures + k)
+abbrev pub moved_procedure : Both → ℕ → ℕ
+moved_procedure both k = moved_word both body_unit (procedure_behind both k)
 
-abbrev pub moved_node : Counts → Node → ℕ
+abbrev pub node_behind : Both → ℕ → Node
+node_behind both k = node_at (program_of both) (both.library.header.procedures + k)
+
+abbrev pub moved_node : Both → Node → ℕ
 moved_node both m = moved_word both (part_units m) (packed m)

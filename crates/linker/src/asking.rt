@@ -1,105 +1,104 @@
 // What is asked of the two tables: 2 to 12 and 26 of the library, then of the program, and 27 to 29.
-ghost use Rattle.std.specs.Prelude.{◌≡◌, ◌+◌, ◌<◌, ◌≤◌, length};
+ghost use Rattle.std.specs.Prelude.{◌≡◌, ◌+◌, ◌<◌, ◌≤◌};
 ghost use Rattle.rules.specs.Answers.{Accepted, ◌then◌};
 ghost use Rattle.rules.specs.Choice.{first_failing};
 ghost use Rattle.rules.specs.Table.{decode, procedures};
 ghost use Rattle.rules.specs.WellFormed.{well_formed};
 ghost use Rattle.linker.specs.Linking.{stub, procedure_links, flags_agree, question27, question28, question29, joinable};
-ghost use Rattle.linker.specs.Given.{Pair, Fitting, nodes_of, bytes_of};
+ghost use Rattle.linker.specs.Given.{library_of, program_of, Joinable, nodes_of, bytes_of};
 
-use crate::{Counts, Link, LinkRefusal, both_counts};
+use crate::both::Both;
+use crate::{Link, LinkRefusal};
 use rules::Verdict;
 use rules::kinds::NOTHING;
 use sweep::{PLANE_WORDS, well_formed};
 use table::shape::refused;
-use table::words::{body, effect_flag, flagged, kind_at};
 
 // The nodes that a table has at most.
 const MOST_NODES: usize = 256;
 
-fn is_stub(library: &[u8], program: &[u8], both: Counts, p: usize) -> bool
-    requires { Pair library.now program.now both × (p < both.library.procedures) × (p < both.program.procedures) }
-    ensures { result ≡ stub (decode library.now) (decode program.now) p }
+fn is_stub(both: &Both, p: usize) -> bool
+    requires { (p < both.now.library.header.procedures) × (p < both.now.program.header.procedures) }
+    ensures { result ≡ stub (library_of both.now) (program_of both.now) p }
 {
-    if body(program, p) != p {
+    if both.program.body(p) != p {
         return false;
     }
-    if kind_at(program, both.program, p) != NOTHING {
+    if both.program.kind_at(p) != NOTHING {
         return false;
     }
-    effect_flag(library, p) == effect_flag(program, p)
+    both.library.effect_flag(p) == both.program.effect_flag(p)
 }
 
-fn procedure_links(library: &[u8], program: &[u8], both: Counts, p: usize) -> bool
-    requires { Pair library.now program.now both }
-    ensures { result ≡ procedure_links (decode library.now) (decode program.now) p }
+fn procedure_links(both: &Both, p: usize) -> bool
+    ensures { result ≡ procedure_links (library_of both.now) (program_of both.now) p }
 {
-    if both.program.procedures <= p {
+    if both.program.header.procedures <= p {
         return false;
     }
-    if both.library.procedures <= p {
+    if both.library.header.procedures <= p {
         return true;
     }
-    is_stub(library, program, both, p)
+    is_stub(both, p)
 }
 
-fn first_unlinked(library: &[u8], program: &[u8], both: Counts) -> usize
-    requires { Pair library.now program.now both }
-    ensures { result ≡ first_failing (procedure_links (decode library.now) (decode program.now))
-        (1 + procedures (decode library.now)) }
+fn first_unlinked(both: &Both) -> usize
+    ensures { result ≡ first_failing (procedure_links (library_of both.now) (program_of both.now))
+        (1 + procedures (library_of both.now)) }
 {
-    let count = 1 + both.library.procedures;
+    let count = 1 + both.library.header.procedures;
     for p in 0..count {
-        if !procedure_links(library, program, both, p) {
+        if !procedure_links(both, p) {
             return p;
         }
     }
     count
 }
 
-fn first_disagreeing(library: &[u8], program: &[u8], count: usize) -> usize
-    requires { (8 ≤ length library.now) × (8 ≤ length program.now) × (count ≤ 32) }
-    ensures { result ≡ first_failing (flags_agree (decode library.now) (decode program.now)) count }
+fn first_disagreeing(both: &Both, count: usize) -> usize
+    requires { count ≤ 32 }
+    ensures { result ≡ first_failing (flags_agree (library_of both.now) (program_of both.now)) count }
 {
     for v in 0..count {
-        if flagged(library, v) != flagged(program, v) {
+        if both.library.flagged(v) != both.program.flagged(v) {
             return v;
         }
     }
     count
 }
 
-pub(crate) fn joined_nodes(both: Counts) -> usize
-    requires { Fitting both }
-    ensures { result ≡ nodes_of both }
+pub(crate) fn joined_nodes(both: &Both) -> usize
+    requires { Joinable both.now }
+    ensures { result ≡ nodes_of both.now }
 {
-    both.library.nodes + (both.program.nodes - both.library.procedures)
+    both.library.header.nodes + (both.program.header.nodes - both.library.header.procedures)
 }
 
-pub(crate) fn joined_bytes(both: Counts) -> usize
-    requires { Fitting both }
-    ensures { result ≡ bytes_of both }
+pub(crate) fn joined_bytes(both: &Both) -> usize
+    requires { Joinable both.now }
+    ensures { result ≡ bytes_of both.now }
 {
-    4 * (2 + both.program.procedures + joined_nodes(both))
+    4 * (2 + both.program.header.procedures + joined_nodes(both))
 }
 
 // Questions 27 to 29. In 29 the stubs stand on the other side, so that nothing is taken away.
-fn ask_both(library: &[u8], program: &[u8], both: Counts) -> Verdict
-    requires { Pair library.now program.now both }
-    ensures { result ≡ (question27 (decode library.now) (decode program.now)
-        then question28 (decode library.now) (decode program.now)
-        then question29 (decode library.now) (decode program.now)) }
+fn ask_both(both: &Both) -> Verdict
+    ensures { result ≡ (question27 (library_of both.now) (program_of both.now)
+        then question28 (library_of both.now) (program_of both.now)
+        then question29 (library_of both.now) (program_of both.now)) }
 {
-    let procedure = first_unlinked(library, program, both);
-    if procedure <= both.library.procedures {
+    let library = both.library.header;
+    let program = both.program.header;
+    let procedure = first_unlinked(both);
+    if procedure <= library.procedures {
         return refused(27, procedure as u32);
     }
-    let shared = both.library.variables.min(both.program.variables);
-    let variable = first_disagreeing(library, program, shared);
+    let shared = library.variables.min(program.variables);
+    let variable = first_disagreeing(both, shared);
     if variable < shared {
         return refused(28, variable as u32);
     }
-    if MOST_NODES + both.library.procedures < both.library.nodes + both.program.nodes {
+    if MOST_NODES + library.procedures < library.nodes + program.nodes {
         return refused(29, 0);
     }
     Ok(())
@@ -122,7 +121,7 @@ fn ask_program(library: &[u8], program: &[u8]) -> Verdict
         then question29 (decode library.now) (decode program.now)) }
 {
     ask_alone(program)?;
-    ask_both(library, program, both_counts(library, program))
+    ask_both(&Both::of(library, program))
 }
 
 pub(crate) fn ask(library: &[u8], program: &[u8]) -> Link

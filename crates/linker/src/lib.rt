@@ -1,18 +1,17 @@
 // Joining a library to a table (request U8). The table that it is joined to is the program.
 #![tactic(auto)]
 
-ghost use Rattle.std.specs.Prelude.{◌≡◌, ◌≤◌, length};
+ghost use Rattle.std.specs.Prelude.{◌≡◌, ◌≤◌};
 ghost use Rattle.linker.specs.Linking.{joinable, link_answer, link_output, joined_length, Joined};
 ghost use Rattle.rules.specs.WellFormed.{most_table_bytes};
-ghost use Rattle.table.specs.Header.{header_of};
 
 use crate::asking::{ask, joined_bytes};
+use crate::both::Both;
 use crate::writing::write;
 use rules::Refusal;
-use table::Header;
-use table::words::header;
 
 mod asking; // asking.rt: what is asked of the two tables
+mod both; // both.rt: the two tables
 mod writing; // writing.rt: the joined table's words
 
 // The first question that fails, and whether it is put to the library or to the program.
@@ -25,37 +24,20 @@ pub enum LinkRefusal {
 // The answer: the joined table is written, or it is refused.
 pub type Link = Result<(), LinkRefusal>;
 
-// The counts of both tables.
-#[derive(Clone, Copy)]
-struct Counts {
-    library: Header,
-    program: Header,
-}
-
-fn both_counts(library: &[u8], program: &[u8]) -> Counts
-    requires { (4 ≤ length library.now) × (4 ≤ length program.now) }
-    ensures { (result.library ≡ header_of library.now) × (result.program ≡ header_of program.now) }
-{
-    Counts {
-        library: header(library),
-        program: header(program),
-    }
-}
-
 // Question 29 of the output, and the joined table.
 fn link_joinable(library: &[u8], program: &[u8], out: &mut [u8]) -> Link
     requires { joinable library.now program.now ≡ Joined }
     ensures { (result ≡ link_answer library.now program.now out.old)
         × (out.new ≡ link_output library.now program.now out.old) }
 {
-    let both = both_counts(library, program);
-    if out.len() != joined_bytes(both) {
+    let both = Both::of(library, program);
+    if out.len() != joined_bytes(&both) {
         return Err(LinkRefusal::OfProgram(Refusal {
             number: 29,
             place: 0,
         }));
     }
-    write(library, program, both, out);
+    write(&both, out);
     Ok(())
 }
 
@@ -72,7 +54,7 @@ pub fn joined_length(library: &[u8], program: &[u8]) -> usize
     ensures { (result ≡ joined_length library.now program.now) × (result ≤ most_table_bytes) }
 {
     match ask(library, program) {
-        Ok(()) => joined_bytes(both_counts(library, program)),
+        Ok(()) => joined_bytes(&Both::of(library, program)),
         Err(_) => 0,
     }
 }

@@ -1,18 +1,17 @@
 // The joined table's words. The library's are as they were; in the program's, the numbers of nodes are other ones, in the same bits.
-ghost use Rattle.std.specs.Prelude.{◌≡◌, ℕ, ◌+◌, ◌-◌, ◌*◌, ◌^◌, ◌<◌, ◌≤◌, max, length};
+ghost use Rattle.std.specs.Prelude.{◌≡◌, ◌+◌, ◌*◌, ◌^◌, ◌≤◌, max, length};
 ghost use Rattle.std.proofs.lemmas.List.Edits.{sets};
-ghost use Rattle.linker.specs.Given.{Joinable, Fitting, nodes_of, bytes_of, moved_word, Movable, body_unit, part_units};
-ghost use Rattle.linker.specs.Given.{moved_procedure, node_behind, moved_node};
+ghost use Rattle.linker.specs.Given.{library_of, program_of, Joinable, nodes_of, bytes_of, moved_word, Movable};
+ghost use Rattle.linker.specs.Given.{bodies_behind, nodes_behind, moved_procedure, node_behind, moved_node};
 ghost use Rattle.linker.specs.Linking.{linked};
-ghost use Rattle.rules.specs.Encoding.{word_bytes, flag_bits, packed, word_of, encode};
-ghost use Rattle.rules.specs.Table.{decode, word_at, flagged};
+ghost use Rattle.rules.specs.Encoding.{word_bytes, flag_bits, word_of, encode};
+ghost use Rattle.rules.specs.Table.{flagged};
 ghost use Rattle.rules.specs.WellFormed.{joined};
-ghost use Rattle.table.specs.Header.{header_of};
 ghost use Rattle.writer.specs.Written.{Begins};
 
-use crate::Counts;
 use crate::asking::joined_nodes;
-use table::words::{kind_of, packed_at, word};
+use crate::both::Both;
+use table::words::{kind_of, word};
 use writer::{copy_words, put_word};
 
 // What a 1 in field A, B or C counts in a node's word, and a 1 of the body in a procedure's.
@@ -60,94 +59,91 @@ const PARTS: [u32; 32] = [
     0,
 ];
 
-fn moved(word: u32, one: u32, both: Counts) -> u32
-    requires { Fitting both × Movable both one word }
-    ensures { result ≡ moved_word both one word }
+fn moved(both: &Both, word: u32, one: u32) -> u32
+    requires { Movable both.now one word }
+    ensures { result ≡ moved_word both.now one word }
 {
-    word - both.library.procedures as u32 * one + both.library.nodes as u32 * one
+    word - both.library.header.procedures as u32 * one + both.library.header.nodes as u32 * one
 }
 
-fn header_word(both: Counts) -> u32
-    requires { Fitting both }
-    ensures { result ≡ 2 ^ 28 + max both.library.variables both.program.variables * 2 ^ 22
-        + both.program.procedures * 2 ^ 17 + nodes_of both * 2 ^ 8 }
+fn header_word(both: &Both) -> u32
+    requires { Joinable both.now }
+    ensures { result ≡ 2 ^ 28 + max both.now.library.header.variables both.now.program.header.variables * 2 ^ 22
+        + both.now.program.header.procedures * 2 ^ 17 + nodes_of both.now * 2 ^ 8 }
 {
-    let variables = both.library.variables.max(both.program.variables);
+    let library = both.library.header;
+    let program = both.program.header;
+    let variables = library.variables.max(program.variables);
     268435456
         + variables as u32 * 4194304
-        + both.program.procedures as u32 * 131072
+        + program.procedures as u32 * 131072
         + joined_nodes(both) as u32 * 256
 }
 
 // Word 1 of the table that has more variables: the other's flags are the same as far as they go.
-fn flags_word(library: &[u8], program: &[u8], both: Counts) -> u32
-    requires { Joinable library.now program.now both }
-    ensures { result ≡ flag_bits (flagged (linked (decode library.now) (decode program.now))) 32 }
+fn flags_word(both: &Both) -> u32
+    requires { Joinable both.now }
+    ensures { result ≡ flag_bits (flagged (linked (library_of both.now) (program_of both.now))) 32 }
 {
-    if both.library.variables < both.program.variables {
-        word(program, 1)
+    if both.library.header.variables < both.program.header.variables {
+        word(both.program.bytes, 1)
     } else {
-        word(library, 1)
+        word(both.library.bytes, 1)
     }
 }
 
 // The program's procedures behind its stubs.
-fn write_bodies(program: &[u8], both: Counts, out: &mut [u8])
-    requires fitting { Fitting both × (both.library.procedures ≤ both.program.procedures)
-        × (4 * (2 + both.program.procedures) ≤ length program.now) × (4 * (2 + both.program.procedures) ≤ length out.old) }
-    requires by_index { (k : ℕ) → k < both.program.procedures - both.library.procedures
-        → Movable both body_unit (word_at program.now (2 + both.library.procedures + k)) }
-    ensures { out.new ≡ sets out.old (4 * (2 + both.library.procedures))
-        (joined (λ k. word_bytes (moved_procedure both program.now k))
-        (both.program.procedures - both.library.procedures)) }
+fn write_bodies(both: &Both, out: &mut [u8])
+    requires { Joinable both.now × (4 * (2 + both.now.program.header.procedures) ≤ length out.old) }
+    ensures { out.new ≡ sets out.old (4 * (2 + both.now.library.header.procedures))
+        (joined (λ k. word_bytes (moved_procedure both.now k)) (bodies_behind both.now)) }
 {
-    let first = 2 + both.library.procedures;
-    let count = both.program.procedures - both.library.procedures;
+    let first = 2 + both.library.header.procedures;
+    let count = both.program.header.procedures - both.library.header.procedures;
     for k in 0..count {
-        put_word(out, first + k, moved(word(program, first + k), BODY, both));
+        let procedure = word(both.program.bytes, first + k);
+        put_word(out, first + k, moved(both, procedure, BODY));
     }
 }
 
 // The program's nodes behind its stubs' bodies, as those behind the library's.
-fn write_nodes(program: &[u8], both: Counts, out: &mut [u8])
-    requires fitting { Fitting both × (both.program ≡ header_of program.now)
-        × (4 * (2 + both.program.procedures + both.program.nodes) ≤ length program.now) × (bytes_of both ≤ length out.old) }
-    requires by_index { (k : ℕ) → k < both.program.nodes - both.library.procedures
-        → Movable both (part_units (node_behind both program.now k)) (packed (node_behind both program.now k)) }
-    ensures { out.new ≡ sets out.old (4 * (2 + both.program.procedures + both.library.nodes))
-        (joined (λ k. word_bytes (moved_node both (node_behind both program.now k)))
-        (both.program.nodes - both.library.procedures)) }
+fn write_nodes(both: &Both, out: &mut [u8])
+    requires { Joinable both.now × (bytes_of both.now ≤ length out.old) }
+    ensures { out.new ≡ sets out.old (4 * (2 + both.now.program.header.procedures + both.now.library.header.nodes))
+        (joined (λ k. word_bytes (moved_node both.now (node_behind both.now k))) (nodes_behind both.now)) }
 {
-    let stubs = both.library.procedures;
-    let first = 2 + both.program.procedures + both.library.nodes;
-    let count = both.program.nodes - stubs;
+    let stubs = both.library.header.procedures;
+    let first = 2 + both.program.header.procedures + both.library.header.nodes;
+    let count = both.program.header.nodes - stubs;
     let parts = PARTS; // once: where it is indexed, a constant is built each time
     for k in 0..count {
-        let node = packed_at(program, both.program, stubs + k);
+        let node = both.program.packed_at(stubs + k);
         let one = parts[kind_of(node) as usize];
-        put_word(out, first + k, moved(node, one, both));
+        put_word(out, first + k, moved(both, node, one));
     }
 }
 
 // The words before the nodes.
-fn write_front(library: &[u8], program: &[u8], both: Counts, out: &mut [u8])
-    requires { Joinable library.now program.now both × (length out.old ≡ bytes_of both) }
-    ensures { Begins (word_of (linked (decode library.now) (decode program.now)))
-        (2 + both.program.procedures) out.new }
+fn write_front(both: &Both, out: &mut [u8])
+    requires { Joinable both.now × (length out.old ≡ bytes_of both.now) }
+    ensures { Begins (word_of (linked (library_of both.now) (program_of both.now)))
+        (2 + both.now.program.header.procedures) out.new }
 {
+    let library = both.library;
     put_word(out, 0, header_word(both));
-    put_word(out, 1, flags_word(library, program, both));
-    copy_words(library, 2, out, 2, both.library.procedures);
-    write_bodies(program, both, out);
+    put_word(out, 1, flags_word(both));
+    copy_words(library.bytes, 2, out, 2, library.header.procedures);
+    write_bodies(both, out);
 }
 
-pub(crate) fn write(library: &[u8], program: &[u8], both: Counts, out: &mut [u8])
-    requires { Joinable library.now program.now both × (length out.old ≡ bytes_of both) }
-    ensures { out.new ≡ encode (linked (decode library.now) (decode program.now)) }
+pub(crate) fn write(both: &Both, out: &mut [u8])
+    requires { Joinable both.now × (length out.old ≡ bytes_of both.now) }
+    ensures { out.new ≡ encode (linked (library_of both.now) (program_of both.now)) }
 {
-    let from = 2 + both.library.procedures;
-    let to = 2 + both.program.procedures;
-    write_front(library, program, both, out);
-    copy_words(library, from, out, to, both.library.nodes);
-    write_nodes(program, both, out);
+    let library = both.library;
+    let from = 2 + library.header.procedures;
+    let to = 2 + both.program.header.procedures;
+    write_front(both, out);
+    copy_words(library.bytes, from, out, to, library.header.nodes);
+    write_nodes(both, out);
 }

@@ -11,12 +11,11 @@ use Rattle.rules.specs.WellFormed.{loop_around, nearest_loop, well_built}
 use Rattle.rules.proofs.ChoiceLaws.{first_le, all-at}
 use Rattle.rules.proofs.Formed.{Formed, statement-past}
 use Rattle.table.specs.Header.{Passing}
-use Rattle.table.specs.declared.Header.{Header}
 use Rattle.table.proofs.PassingLaws.{built-formed}
 use Rattle.loops.specs.Upward.{has_leave}
 
 -- the number of nodes stands for no while
-pub nearest_few : {table : List ℕ} {header : Header} → Passing well_built table header → (n : ℕ)
+pub nearest_few : {table : List ℕ} → Passing well_built table → (n : ℕ)
     → nearest_loop (decode table) n ≤ 256
 unfolding nearest_loop
 nearest_few {table} b n =

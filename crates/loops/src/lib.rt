@@ -10,8 +10,7 @@ ghost use Rattle.loops.specs.Upward.{has_body, has_part, has_leave};
 
 use rules::Node;
 use rules::kinds::{BRANCH, LEAVE, LOOP, SEQUENCE};
-use table::Header;
-use table::words::{kind_at, node_at};
+use table::Table;
 
 fn has_body(node: Node, n: usize) -> bool
     ensures { result ≡ has_body node n }
@@ -38,28 +37,28 @@ fn outward(node: Node, m: usize, n: usize) -> usize
 
 // "the nearest while around it in the same procedure", or the number of nodes. Parts lie below the node that names them, so one
 // pass up the nodes meets what names a node after it.
-pub fn nearest_loop(table: &[u8], header: Header, n: usize) -> usize
-    requires { Passing well_built table.now header × (n < nodes (decode table.now)) }
-    ensures { result ≡ nearest_loop (decode table.now) n }
+pub fn nearest_loop(table: &Table, n: usize) -> usize
+    requires { Passing well_built table.now.bytes.now × (n < nodes (decode table.now.bytes.now)) }
+    ensures { result ≡ nearest_loop (decode table.now.bytes.now) n }
 {
     let mut inner = n;
-    for m in n + 1..header.nodes {
-        let node = node_at(table, header, m);
+    for m in n + 1..table.header.nodes {
+        let node = table.node_at(m);
         if has_body(node, inner) {
             return m;
         }
         inner = outward(node, m, inner);
     }
-    header.nodes
+    table.header.nodes
 }
 
 // Whether the table has a leave.
-pub fn has_leave(table: &[u8], header: Header) -> bool
-    requires { Passing well_built table.now header }
-    ensures { result ≡ has_leave (decode table.now) }
+pub fn has_leave(table: &Table) -> bool
+    requires { Passing well_built table.now.bytes.now }
+    ensures { result ≡ has_leave (decode table.now.bytes.now) }
 {
-    for n in 0..header.nodes {
-        if kind_at(table, header, n) == LEAVE {
+    for n in 0..table.header.nodes {
+        if table.kind_at(n) == LEAVE {
             return true;
         }
     }

@@ -15,14 +15,13 @@ use Rattle.rules.specs.Table.{decode, node_at, statement_at}
 use Rattle.rules.specs.WellFormed.{is_statement}
 use Rattle.rules.proofs.ArrivalLaws.{with_arrival-length, with_arrival-other}
 use Rattle.rules.proofs.StatusLaws.{one_node_waits}
-use Rattle.table.specs.declared.Header.{Header}
 use Rattle.process.specs.Given.{Stacked, is_collective, Topped, Turn}
 use Rattle.collectives.specs.Given.{AtCollective}
 use Rattle.collectives.proofs.CollectiveLaws.{broadcast-fits, exchange-fits}
 use Rattle.preconditions.proofs.FittingLaws.{fits-stacked, run-stacked, run-statement, run-topped}
 use Rattle.machine.specs.Outcomes.{Ready}
 
-module _ {table : List ℕ} {header : Header} {state roll : List ℕ} {count p : ℕ} (r : Ready table header state roll count p)
+module _ {table : List ℕ} {state roll : List ℕ} {count p : ℕ} (r : Ready table state roll count p)
     (runs : status_at roll p ≡ running) where
   pub ready-stacked : Stacked (process_at state p)
   ready-stacked = run-stacked r.team r.within (r.fits p r.within) runs
@@ -31,7 +30,7 @@ module _ {table : List ℕ} {header : Header} {state roll : List ℕ} {count p :
   ready-statement = run-statement r.team r.within (r.fits p r.within) runs
 
   pub ready-topped : {m : Node} → m ≡ node_at (decode table) (top (process_at state p))
-      → Topped table header (process_at state p) count m
+      → Topped table (process_at state p) count m
   ready-topped e = run-topped r.team r.within (r.fits p r.within) runs e
 
   -- 24: a full stack has no statement on top that needs a place
@@ -49,7 +48,7 @@ module _ {table : List ℕ} {header : Header} {state roll : List ℕ} {count p :
       ]
 
   pub ready-turn : {m : Node} → m ≡ node_at (decode table) (top (process_at state p)) → is_collective m.kind ≡ false
-      → Turn table header (process_at state p) p count m
+      → Turn table (process_at state p) p count m
   ready-turn e f = record { topped = ready-topped e; alone = f; place = ready-place }
 
   -- where the arrival of process p is the last, every process holds an entry

@@ -18,8 +18,7 @@ use Rattle.rules.specs.Step.{question22, question23, processes_in, process_fits,
 use Rattle.rules.specs.Step.{team_verdict, step_verdict, step_taken, stepped_by, stepped}
 use Rattle.rules.specs.WellFormed.{well_formed}
 use Rattle.rules.proofs.AnswerLaws.{both_left, both_right, then_first, then_rest, then_assoc, ask_holds, each-passed}
-use Rattle.table.specs.declared.Header.{Header}
-use Rattle.table.specs.Header.{header_of, Passing}
+use Rattle.table.specs.Header.{Passing}
 use Rattle.machine.specs.Layout.{Startable, Starts}
 use Rattle.preconditions.specs.Asked.{GivenTeam}
 use Rattle.machine.specs.Outcomes.{Asked, Ready, Gives}
@@ -66,7 +65,7 @@ module _ (table state roll : List ℕ) (p : ℕ) where
       question_21 : (eqb (length roll) (arrival_size * processes_in roll) && leb 1 (processes_in roll) && leb (processes_in roll) most_processes) ≡ true
       question_21 = ask_holds 21 _ (then_first (question21 (processes_in roll) roll) (question20 (processes_in roll) state) sized)
 
-      pub team_of_lem : {header : Header} → Passing well_formed table header → GivenTeam table header state roll (processes_in roll)
+      pub team_of_lem : Passing well_formed table → GivenTeam table state roll (processes_in roll)
       team_of_lem r =
           let n = processes_in roll in
           let front = both_left (eqb (length roll) (arrival_size * n) && leb 1 n) (leb n most_processes) question_21 in
@@ -90,13 +89,13 @@ module _ (table state roll : List ℕ) (p : ℕ) where
     after-sizes : standing (decode table) state roll (processes_in roll) p ≡ Accepted
     after-sizes = then_rest (sizes state roll) _ after_form
 
-    pub asked_of : {header : Header} → header ≡ header_of table → Asked table header state roll (processes_in roll) p
-    asked_of h =
+    pub asked_of : Asked table state roll (processes_in roll) p
+    asked_of =
         let last = then_rest (question22 (processes_in roll) p) _ after-sizes in
         let each = ask_each 23 (processes_in roll) (process_fits (decode table) state roll) in
         record {
           team = team_of_lem asked-formed (then_first (sizes state roll) _ after_form)
-              (record { passed = asked-formed; headed = h });
+              (record { passed = asked-formed });
           within = ltb-true p (processes_in roll)
               (holds_so (ltb p (processes_in roll)) (record { number = 22; place = p })
               (then_first (question22 (processes_in roll) p) _ after-sizes));
@@ -127,8 +126,8 @@ module _ (table state roll : List ℕ) (p : ℕ) where
     taken_step e = rw (holds, e)
 
 -- questions up to 23 hold, and 24 does
-pub ready_of : {table : List ℕ} {header : Header} {state roll : List ℕ} {count p : ℕ} → Asked table header state roll count p
-    → place_lacked (decode table) state roll count p ≡ false → Ready table header state roll count p
+pub ready_of : {table : List ℕ} {state roll : List ℕ} {count p : ℕ} → Asked table state roll count p
+    → place_lacked (decode table) state roll count p ≡ false → Ready table state roll count p
 ready_of asked e = record { team = asked.team; within = asked.within; fits = asked.fits; place = e }
 
 module _ (table : List ℕ) (count : ℕ) (words state roll : List ℕ) where

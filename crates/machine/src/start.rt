@@ -11,7 +11,7 @@ ghost use Rattle.rules.specs.Table.{decode};
 use collectives::arrivals::write;
 use rules::layout::{DEPTH_AT, DOOR_PLACES, DOORS_AT, LATCHES_AT, PROCESS_WORDS, STACK_AT};
 use rules::{Arrival, Status};
-use table::words::{body, header};
+use table::Table;
 
 fn laid_word(given: &[u32], variables: usize, entry: u32, i: usize) -> u32
     requires { (length given.now ≡ variables + doors) × (variables ≤ variable_places) }
@@ -55,9 +55,9 @@ pub(crate) fn start_state(table: &[u8], count: u32, words: &[u32], state: &mut [
     requires { Startable table.now count words.now state.old }
     ensures { state.new ≡ start_state (decode table.now) count words.now state.old }
 {
-    let head = header(table);
-    let variables = head.variables;
-    let entry = body(table, head.procedures - 1) as u32;
+    let table = Table::of(table);
+    let variables = table.header.variables;
+    let entry = table.body(table.header.procedures - 1) as u32;
     for p in 0..count as usize {
         let at = PROCESS_WORDS * p;
         let end = at + PROCESS_WORDS;

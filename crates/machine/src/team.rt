@@ -14,7 +14,7 @@ use preconditions::{place_lacked, sizes_asked, start_asked, team_asked};
 use rules::layout::{ARRIVAL_WORDS, LATCH_PLACES, LATCHES_AT, PROCESS_WORDS};
 use rules::{Refusal, Stepped, Verdict};
 use sweep::{PLANE_WORDS, well_formed};
-use table::words::header;
+use table::Table;
 
 fn start_formed(
     table: &[u8],
@@ -58,7 +58,7 @@ fn formed_asked(table: &[u8], state: &[u32], roll: &[u32], process: u32) -> Verd
 {
     sizes_asked(state, roll)?;
     let count = (roll.len() / ARRIVAL_WORDS) as u32;
-    team_asked(table, header(table), state, roll, count, process)
+    team_asked(&Table::of(table), state, roll, count, process)
 }
 
 // A step's questions up to 23.
@@ -76,14 +76,14 @@ fn step_asked(table: &[u8], state: &mut [u32], roll: &mut [u32], process: u32) -
         result state.new roll.new }
 {
     let count = (roll.len() / ARRIVAL_WORDS) as u32;
-    let head = header(table);
-    if place_lacked(table, head, state, roll, count, process as usize) {
+    let table = &Table::of(table);
+    if place_lacked(table, state, roll, count, process as usize) {
         return Err(Refusal {
             number: 24,
             place: process,
         });
     }
-    take_turn(table, head, state, roll, count, process as usize)
+    take_turn(table, state, roll, count, process as usize)
 }
 
 // Questions 2 to 12, 26, 21, 20 and 22 to 24, then one step of a process.

@@ -16,7 +16,6 @@ use Rattle.rules.specs.Table.{Program, decode, node_at}
 use Rattle.rules.specs.WellFormed.{is_statement}
 use Rattle.rules.proofs.AnswerLaws.{both_left, both_right}
 use Rattle.rules.proofs.ProcessLaws.{process_length}
-use Rattle.table.specs.declared.Header.{Header}
 use Rattle.process.specs.Given.{Stacked, Topped}
 use Rattle.preconditions.specs.Asked.{GivenTeam}
 use Rattle.preconditions.proofs.QuestionLaws.{record_empty, top-fits}
@@ -60,7 +59,7 @@ module _ (program : Program) (state roll : List ℕ) (q : ℕ) (fits : process_f
   fits-top u = top-fits program (process_at state q) stack-fit (held u)
 
 -- a running process that question 23 holds of
-module _ {table : List ℕ} {header : Header} {state roll : List ℕ} {count p : ℕ} (team : GivenTeam table header state roll count)
+module _ {table : List ℕ} {state roll : List ℕ} {count p : ℕ} (team : GivenTeam table state roll count)
     (within : p < count) (fits : process_fits (decode table) state roll p ≡ true) (runs : status_at roll p ≡ running) where
   unended : status_at roll p ≡ 2 → ⊥
   unended e = omega arith
@@ -71,7 +70,7 @@ module _ {table : List ℕ} {header : Header} {state roll : List ℕ} {count p :
   pub run-statement : is_statement (decode table) (top (process_at state p)) ≡ true
   run-statement = fits-top (decode table) state roll p fits unended
 
-  pub run-topped : {m : Node} → m ≡ node_at (decode table) (top (process_at state p)) → Topped table header (process_at state p) count m
+  pub run-topped : {m : Node} → m ≡ node_at (decode table) (top (process_at state p)) → Topped table (process_at state p) count m
   run-topped e =
       record {
         given = record { read = team.read; sized = run-stacked.sized; few = team.few };

@@ -3,14 +3,13 @@ use Rattle.std.specs.Prelude.{Bool, ◌&&◌, List, ◌≡◌, ℕ, ◌*◌, ◌
 use Rattle.rules.specs.Arrivals.{arrival_size}
 use Rattle.rules.specs.Process.{stack_places, process_words, most_processes, depth}
 use Rattle.rules.specs.Step.{stack_fits, record_fits}
-use Rattle.table.specs.declared.Header.{Header}
 use Rattle.rules.specs.Table.{Program}
 use Rattle.rules.specs.WellFormed.{well_formed}
 use Rattle.table.specs.Header.{Passing}
 
--- a well-formed table with its header, and a state and a roll of `count` processes
-pub record GivenTeam (table : List ℕ) (header : Header) (state roll : List ℕ) (count : ℕ) : Type 0 where
-  pub read : Passing well_formed table header
+-- a well-formed table, and a state and a roll of `count` processes
+pub record GivenTeam (table : List ℕ) (state roll : List ℕ) (count : ℕ) : Type 0 where
+  pub read : Passing well_formed table
   pub some : 1 ≤ count
   pub few : count ≤ most_processes
   pub stated : length state ≡ process_words * count

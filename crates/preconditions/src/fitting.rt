@@ -16,34 +16,32 @@ use process::stack::{process_at, top};
 use rules::Node;
 use rules::kinds::{BARRIER, BROADCAST, ENDED, EXCHANGE, LEAVE, RUNNING, WAITING};
 use rules::layout::{DEPTH_AT, STACK_AT, STACK_PLACES};
-use table::Header;
-use table::fields::names_statement;
-use table::words::{kind_at, node_at};
+use table::Table;
 
 // The depth of a full stack, as a word holds it.
 pub(crate) const MOST_DEPTH: u32 = STACK_PLACES as u32;
 
 // "each stack entry below depth a statement". Two entries a turn: with one, the turn itself is a third of the time.
-fn stack_fits(table: &[u8], header: Header, words: &[u32]) -> bool
-    requires { Passing well_formed table.now header × (length words.now ≡ process_words)
+fn stack_fits(table: &Table, words: &[u32]) -> bool
+    requires { Passing well_formed table.now.bytes.now × (length words.now ≡ process_words)
         × (depth words.now ≤ stack_places) }
-    ensures { result ≡ stack_fits (decode table.now) words.now }
+    ensures { result ≡ stack_fits (decode table.now.bytes.now) words.now }
 {
     let depth = words[DEPTH_AT] as usize;
     let pairs = depth / 2;
     for i in 0..pairs {
         let at = STACK_AT + 2 * i;
-        if !names_statement(table, header, words[at] as usize) {
+        if !table.names_statement(words[at] as usize) {
             return false;
         }
-        if !names_statement(table, header, words[at + 1] as usize) {
+        if !table.names_statement(words[at + 1] as usize) {
             return false;
         }
     }
     if depth % 2 == 0 {
         return true;
     }
-    names_statement(table, header, words[DEPTH_AT + depth] as usize)
+    table.names_statement(words[DEPTH_AT + depth] as usize)
 }
 
 fn fields_zero(roll: &[u32], p: usize) -> bool
@@ -66,16 +64,16 @@ fn lacked_zero(roll: &[u32], p: usize, node: Node) -> bool
     }
 }
 
-fn wait_fits(table: &[u8], header: Header, words: &[u32], roll: &[u32], p: usize) -> bool
-    requires { Passing well_formed table.now header × Stacked words.now × (arrival_size * p + 3 < length roll.now)
-        × (is_statement (decode table.now) (top words.now) ≡ true) }
-    ensures { result ≡ wait_fits (decode table.now) words.now roll.now p }
+fn wait_fits(table: &Table, words: &[u32], roll: &[u32], p: usize) -> bool
+    requires { Passing well_formed table.now.bytes.now × Stacked words.now × (arrival_size * p + 3 < length roll.now)
+        × (is_statement (decode table.now.bytes.now) (top words.now) ≡ true) }
+    ensures { result ≡ wait_fits (decode table.now.bytes.now) words.now roll.now p }
 {
     let entry = top(words);
     if entry != node_of(roll, p) {
         return false;
     }
-    lacked_zero(roll, p, node_at(table, header, entry as usize))
+    lacked_zero(roll, p, table.node_at(entry as usize))
 }
 
 // Whether node w lies below the top.
@@ -93,30 +91,30 @@ fn lies_below(words: &[u32], w: usize) -> bool
     false
 }
 
-pub fn leave_on_top(table: &[u8], header: Header, words: &[u32]) -> bool
-    requires { Passing well_formed table.now header × Stacked words.now
-        × (is_statement (decode table.now) (top words.now) ≡ true) }
-    ensures { result ≡ is_leave (statement_at (decode table.now) (top words.now)) }
+pub fn leave_on_top(table: &Table, words: &[u32]) -> bool
+    requires { Passing well_formed table.now.bytes.now × Stacked words.now
+        × (is_statement (decode table.now.bytes.now) (top words.now) ≡ true) }
+    ensures { result ≡ is_leave (statement_at (decode table.now.bytes.now) (top words.now)) }
 {
     let n = top(words) as usize;
-    kind_at(table, header, n) == LEAVE
+    table.kind_at(n) == LEAVE
 }
 
 // "A made-up stack with a leave on top and that while not below is number 23." Apart from the test above, which is short enough
 // to stand in the callers.
-pub fn leave_fits(table: &[u8], header: Header, words: &[u32]) -> bool
-    requires { Passing well_formed table.now header × Stacked words.now
-        × (is_statement (decode table.now) (top words.now) ≡ true)
-        × (is_leave (statement_at (decode table.now) (top words.now)) ≡ true) }
-    ensures { result ≡ leave_fits (decode table.now) words.now }
+pub fn leave_fits(table: &Table, words: &[u32]) -> bool
+    requires { Passing well_formed table.now.bytes.now × Stacked words.now
+        × (is_statement (decode table.now.bytes.now) (top words.now) ≡ true)
+        × (is_leave (statement_at (decode table.now.bytes.now) (top words.now)) ≡ true) }
+    ensures { result ≡ leave_fits (decode table.now.bytes.now) words.now }
 {
-    lies_below(words, nearest_loop(table, header, top(words) as usize))
+    lies_below(words, nearest_loop(table, top(words) as usize))
 }
 
-fn record_fits(table: &[u8], header: Header, words: &[u32], roll: &[u32], p: usize) -> bool
-    requires { Passing well_formed table.now header × (length words.now ≡ process_words) × (depth words.now ≤ stack_places)
-        × (arrival_size * p + 3 < length roll.now) × (stack_fits (decode table.now) words.now ≡ true) }
-    ensures { result ≡ record_fits (decode table.now) words.now roll.now p }
+fn record_fits(table: &Table, words: &[u32], roll: &[u32], p: usize) -> bool
+    requires { Passing well_formed table.now.bytes.now × (length words.now ≡ process_words) × (depth words.now ≤ stack_places)
+        × (arrival_size * p + 3 < length roll.now) × (stack_fits (decode table.now.bytes.now) words.now ≡ true) }
+    ensures { result ≡ record_fits (decode table.now.bytes.now) words.now roll.now p }
 {
     let status = status_at(roll, p);
     let empty = words[DEPTH_AT] == 0;
@@ -133,40 +131,42 @@ fn record_fits(table: &[u8], header: Header, words: &[u32], roll: &[u32], p: usi
         if !fields_zero(roll, p) {
             return false;
         }
-        if !leave_on_top(table, header, words) {
+        if !leave_on_top(table, words) {
             return true;
         }
-        return leave_fits(table, header, words);
+        return leave_fits(table, words);
     }
     if status == WAITING {
-        return wait_fits(table, header, words, roll, p);
+        return wait_fits(table, words, roll, p);
     }
     false
 }
 
 // Question 23 of one process's words.
-fn words_fit(table: &[u8], header: Header, words: &[u32], roll: &[u32], p: usize) -> bool
-    requires { Passing well_formed table.now header × (length words.now ≡ process_words)
+fn words_fit(table: &Table, words: &[u32], roll: &[u32], p: usize) -> bool
+    requires { Passing well_formed table.now.bytes.now × (length words.now ≡ process_words)
         × (arrival_size * p + 3 < length roll.now) }
-    ensures { result ≡ words_fit (decode table.now) words.now roll.now p }
+    ensures { result ≡ words_fit (decode table.now.bytes.now) words.now roll.now p }
 {
     if words[DEPTH_AT] > MOST_DEPTH {
         return false;
     }
-    if !stack_fits(table, header, words) {
+    if !stack_fits(table, words) {
         return false;
     }
-    record_fits(table, header, words, roll, p)
+    record_fits(table, words, roll, p)
 }
 
 // "for 23 and 24 the first bank failing"
-pub fn first_unfit(table: &[u8], header: Header, state: &[u32], roll: &[u32], count: usize) -> usize
-    requires { Passing well_formed table.now header × (length state.now ≡ process_words * count)
+pub fn first_unfit(table: &Table, state: &[u32], roll: &[u32], count: usize) -> usize
+    requires { Passing well_formed table.now.bytes.now × (length state.now ≡ process_words * count)
         × (length roll.now ≡ arrival_size * count) }
-    ensures { result ≡ first_failing (process_fits (decode table.now) state.now roll.now) count }
+    ensures { result ≡ first_failing (process_fits (decode table.now.bytes.now) state.now roll.now) count }
 {
+    // A copy of its own: behind the reference the loop would read the counts again each turn.
+    let own = *table;
     for p in 0..count {
-        if !words_fit(table, header, process_at(state, p), roll, p) {
+        if !words_fit(&own, process_at(state, p), roll, p) {
             return p;
         }
     }

@@ -17,9 +17,9 @@ use process::stack::{process_at, top};
 use rules::kinds::{LOOP, RUNNING, SEQUENCE};
 use rules::layout::{ARRIVAL_WORDS, DEPTH_AT, DOOR_PLACES, MOST_PROCESSES, PROCESS_WORDS};
 use rules::{Node, Verdict};
-use table::Header;
+use table::Table;
 use table::shape::refused;
-use table::words::{header, node_at};
+use table::words::header;
 use values::evaluation::evaluate;
 
 pub mod fitting; // fitting.rt: question 23 of one process after another
@@ -80,37 +80,23 @@ pub fn sizes_asked(state: &[u32], roll: &[u32]) -> Verdict
 }
 
 // 24's "if one is needed"
-fn needs_place(
-    table: &[u8],
-    header: Header,
-    words: &[u32],
-    own: u32,
-    count: u32,
-    node: Node,
-) -> bool
-    requires { Topped table.now header words.now count node }
-    ensures { result ≡ needs_place (decode table.now) (environment words.now own count)
-        (statement_at (decode table.now) (top words.now)) }
+fn needs_place(table: &Table, words: &[u32], own: u32, count: u32, node: Node) -> bool
+    requires { Topped table.now.bytes.now words.now count node }
+    ensures { result ≡ needs_place (decode table.now.bytes.now) (environment words.now own count)
+        (statement_at (decode table.now.bytes.now) (top words.now)) }
 {
     match node.kind {
         SEQUENCE => true,
-        LOOP => evaluate(table, header, words, own, count, node.a as usize) != 0,
+        LOOP => evaluate(table, words, own, count, node.a as usize) != 0,
         _ => false,
     }
 }
 
 // 24: "Has the bank a free stack place if one is needed?"
-pub fn place_lacked(
-    table: &[u8],
-    header: Header,
-    state: &[u32],
-    roll: &[u32],
-    count: u32,
-    p: usize,
-) -> bool
-    requires { GivenTeam table.now header state.now roll.now count × (p < count)
-        × (process_fits (decode table.now) state.now roll.now p ≡ true) }
-    ensures { result ≡ place_lacked (decode table.now) state.now roll.now count p }
+pub fn place_lacked(table: &Table, state: &[u32], roll: &[u32], count: u32, p: usize) -> bool
+    requires { GivenTeam table.now.bytes.now state.now roll.now count × (p < count)
+        × (process_fits (decode table.now.bytes.now) state.now roll.now p ≡ true) }
+    ensures { result ≡ place_lacked (decode table.now.bytes.now) state.now roll.now count p }
 {
     if status_at(roll, p) != RUNNING {
         return false;
@@ -119,27 +105,20 @@ pub fn place_lacked(
     if words[DEPTH_AT] != MOST_DEPTH {
         return false;
     }
-    let node = node_at(table, header, top(words) as usize);
-    needs_place(table, header, words, p as u32, count, node)
+    let node = table.node_at(top(words) as usize);
+    needs_place(table, words, p as u32, count, node)
 }
 
 // Questions 22 and 23 of a step.
-pub fn team_asked(
-    table: &[u8],
-    header: Header,
-    state: &[u32],
-    roll: &[u32],
-    count: u32,
-    process: u32,
-) -> Verdict
-    requires { GivenTeam table.now header state.now roll.now count }
+pub fn team_asked(table: &Table, state: &[u32], roll: &[u32], count: u32, process: u32) -> Verdict
+    requires { GivenTeam table.now.bytes.now state.now roll.now count }
     ensures { result ≡ (question22 count process
-        then question23 (decode table.now) state.now roll.now count) }
+        then question23 (decode table.now.bytes.now) state.now roll.now count) }
 {
     if process >= count {
         return refused(22, process);
     }
-    let unfit = first_unfit(table, header, state, roll, count as usize);
+    let unfit = first_unfit(table, state, roll, count as usize);
     if unfit < count as usize {
         return refused(23, unfit as u32);
     }

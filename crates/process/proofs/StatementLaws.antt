@@ -2,20 +2,18 @@
 use mathlib.Core.Bool.{true, false}
 use mathlib.Core.List.{List}
 use mathlib.Core.Path.{◌≡◌}
-use Prim.Native.Nat.{ℕ, ◌+◌, ◌*◌, ◌<◌}
+use Prim.Native.Nat.{ℕ, ◌<◌}
 use native.Mathlib.Decide.{dec_lt}
 use native.Mathlib.Omega.{arith}
-use lib.ListN.{length}
 use Rattle.rules.specs.declared.Node.{Node}
 use Rattle.rules.specs.Process.{variable_places, stack_places, environment, depth, top, needs_place}
 use Rattle.rules.specs.Table.{Program, decode}
 use Rattle.rules.specs.Table.{procedures, nodes, body, unpacked, statement_at, statement_of, Statement, loop}
 use Rattle.rules.specs.WellFormed.{is_statement, expression_part, well_formed}
-use Rattle.rules.proofs.Formed.{Formed, formed, exact}
+use Rattle.rules.proofs.Formed.{Formed, formed}
 use Rattle.rules.proofs.KindLaws.{sequence_of, loop_of, statement-here}
 use Rattle.rules.proofs.KindLaws.{assign_fields, branch_fields, loop_fields, call-field, latch_fields}
 use Rattle.table.specs.Header.{Passing}
-use Rattle.table.specs.declared.Header.{Header}
 use Rattle.values.specs.Given.{Given, Part}
 use Rattle.process.specs.Given.{Stacked, Topped, Turn}
 use Rattle.values.proofs.ExpressionLaws.{part-lower}
@@ -34,8 +32,8 @@ statement-below program formed n e =
     ]
 
 -- the top statement of a process
-module _ {table : List ℕ} {header : Header} {words : List ℕ} {count : ℕ} {m : Node}
-    (t : Topped table header words count m) where
+module _ {table : List ℕ} {words : List ℕ} {count : ℕ} {m : Node}
+    (t : Topped table words count m) where
   pub top-formed : Formed (decode table)
   top-formed = formed table t.given.read.passed
 
@@ -53,12 +51,12 @@ module _ {table : List ℕ} {header : Header} {words : List ℕ} {count : ℕ} {
   top-test e = top_part (loop_fields (decode table) top-formed (top words) m t.here e).0
 
 -- what each kind's function asks of a process whose turn it is
-module _ {table : List ℕ} {header : Header} {words : List ℕ} {own count : ℕ} {m : Node}
-    (t : Turn table header words own count m) where
+module _ {table : List ℕ} {words : List ℕ} {own count : ℕ} {m : Node}
+    (t : Turn table words own count m) where
   shape : Formed (decode table)
   shape = top-formed t.topped
 
-  pub turn-assign : m.kind ≡ 17 → Given table header words count × Stacked words × (m.a < variable_places) × Part (decode table) m.b
+  pub turn-assign : m.kind ≡ 17 → Given table words count × Stacked words × (m.a < variable_places) × Part (decode table) m.b
   turn-assign e =
       let f = assign_fields (decode table) shape (top words) m t.topped.here e in
       (t.topped.given, t.topped.stacked, omega (arith, f.0, shape.variables-high), top_part t.topped f.1)
@@ -67,12 +65,12 @@ module _ {table : List ℕ} {header : Header} {words : List ℕ} {own count : �
   unfolding needs_place
   turn-sequence e = (t.topped.stacked, t.place (rw (top-statement t.topped (sequence_of m e))))
 
-  pub turn-branch : m.kind ≡ 19 → Given table header words count × Stacked words × Part (decode table) m.a
+  pub turn-branch : m.kind ≡ 19 → Given table words count × Stacked words × Part (decode table) m.a
   turn-branch e =
       let f = branch_fields (decode table) shape (top words) m t.topped.here e in
       (t.topped.given, t.topped.stacked, top_part t.topped f.0)
 
-  pub turn-loop : m.kind ≡ 20 → Given table header words count × Stacked words × Part (decode table) m.a
+  pub turn-loop : m.kind ≡ 20 → Given table words count × Stacked words × Part (decode table) m.a
   turn-loop e = (t.topped.given, t.topped.stacked, top-test t.topped e)
 
   pub turn_repeat : m.kind ≡ 20
@@ -80,18 +78,16 @@ module _ {table : List ℕ} {header : Header} {words : List ℕ} {own count : �
       → depth words < stack_places
   turn_repeat e n = t.place (rw (top-statement t.topped (loop_of m e)) n)
 
-  pub turn-call : m.kind ≡ 21 → Stacked words × (4 * (2 + m.a) + 3 < length table) × (m.a < procedures (decode table))
-  turn-call e =
-      let low = call-field (decode table) shape (top words) m t.topped.here e in
-      (t.topped.stacked, omega (arith, exact table t.topped.given.read.passed, shape.nodes-low), low)
+  pub turn-call : m.kind ≡ 21 → Stacked words × (m.a < procedures (decode table))
+  turn-call e = (t.topped.stacked, call-field (decode table) shape (top words) m t.topped.here e)
 
   pub turn_body : m.kind ≡ 21 → body (decode table) m.a < 256
-  turn_body e = omega (arith, shape.body_below m.a (turn-call e).2, shape.nodes-high)
+  turn_body e = omega (arith, shape.body_below m.a (turn-call e).1, shape.nodes-high)
 
-  pub turn-latch : m.kind ≡ 22 → Given table header words count × Stacked words × Part (decode table) m.a × Part (decode table) m.b
+  pub turn-latch : m.kind ≡ 22 → Given table words count × Stacked words × Part (decode table) m.a × Part (decode table) m.b
   turn-latch e =
       let f = latch_fields (decode table) shape (top words) m t.topped.here e in
       (t.topped.given, t.topped.stacked, top_part t.topped f.0, top_part t.topped f.1)
 
-  pub turn-leave : Passing well_formed table header × Stacked words × (top words < nodes (decode table))
+  pub turn-leave : Passing well_formed table × Stacked words × (top words < nodes (decode table))
   turn-leave = (t.topped.given.read, t.topped.stacked, top_below t.topped)

@@ -1,5 +1,5 @@
 // The step of a statement that is no collective, on one process's words. Values are worked out before a word is written.
-ghost use Rattle.std.specs.Prelude.{true, cond, ◌≡◌, ◌+◌, ◌*◌, ◌<◌, ◌≤◌, ltb, length, set};
+ghost use Rattle.std.specs.Prelude.{true, cond, ◌≡◌, ◌+◌, ◌<◌, ltb, length, set};
 ghost use Rattle.rules.specs.Process.{variable_places, latch_places, stack_places, latches_at, process_words};
 ghost use Rattle.rules.specs.Process.{environment, depth, top, replaced, pushed, unwound, advanced, needs_place};
 ghost use Rattle.rules.specs.Table.{decode, Statement, procedures, nodes, body, statement_at};
@@ -13,17 +13,17 @@ use loops::nearest_loop;
 use rules::Node;
 use rules::kinds::{ASSIGN, BARRIER, BRANCH, CALL, EXCHANGE, LATCH, LEAVE, LOOP, SEQUENCE};
 use rules::layout::{LATCH_PLACES, LATCHES_AT};
-use table::Header;
-use table::words::body;
+use table::Table;
 use values::evaluation::value_at;
 
-fn assign(table: &[u8], header: Header, words: &mut [u32], own: u32, count: u32, a: usize, b: usize)
-    requires { Given table.now header words.old count × Stacked words.old × (a < variable_places) × Part (decode table.now) b }
+fn assign(table: &Table, words: &mut [u32], own: u32, count: u32, a: usize, b: usize)
+    requires { Given table.now.bytes.now words.old count × Stacked words.old × (a < variable_places)
+        × Part (decode table.now.bytes.now) b }
     ensures { words.new
-        ≡ advanced (decode table.now) (environment words.old own count) words.old
+        ≡ advanced (decode table.now.bytes.now) (environment words.old own count) words.old
         (Statement.assign a b) }
 {
-    let value = value_at(table, header, words, own, count, b);
+    let value = value_at(table, words, own, count, b);
     words[a] = value;
     pop(words);
 }
@@ -36,13 +36,13 @@ fn sequence(words: &mut [u32], a: u32, b: u32)
     push(words, a);
 }
 
-fn branch(table: &[u8], header: Header, words: &mut [u32], own: u32, count: u32, node: Node)
-    requires { Given table.now header words.old count × Stacked words.old × Part (decode table.now) node.a }
+fn branch(table: &Table, words: &mut [u32], own: u32, count: u32, node: Node)
+    requires { Given table.now.bytes.now words.old count × Stacked words.old × Part (decode table.now.bytes.now) node.a }
     ensures { words.new
-        ≡ advanced (decode table.now) (environment words.old own count) words.old
+        ≡ advanced (decode table.now.bytes.now) (environment words.old own count) words.old
         (Statement.branch node.a node.b node.c) }
 {
-    let test = value_at(table, header, words, own, count, node.a as usize);
+    let test = value_at(table, words, own, count, node.a as usize);
     if test == 0 {
         replace(words, node.c);
     } else {
@@ -50,15 +50,16 @@ fn branch(table: &[u8], header: Header, words: &mut [u32], own: u32, count: u32,
     }
 }
 
-fn repeat(table: &[u8], header: Header, words: &mut [u32], own: u32, count: u32, node: Node)
-    requires given { Given table.now header words.old count × Stacked words.old × Part (decode table.now) node.a }
-    requires words_bound { needs_place (decode table.now) (environment words.old own count) (Statement.loop node.a node.b) ≡ true
+fn repeat(table: &Table, words: &mut [u32], own: u32, count: u32, node: Node)
+    requires given { Given table.now.bytes.now words.old count × Stacked words.old × Part (decode table.now.bytes.now) node.a }
+    requires words_bound { needs_place (decode table.now.bytes.now) (environment words.old own count)
+        (Statement.loop node.a node.b) ≡ true
         → depth words.old < stack_places }
     ensures { words.new
-        ≡ advanced (decode table.now) (environment words.old own count) words.old
+        ≡ advanced (decode table.now.bytes.now) (environment words.old own count) words.old
         (Statement.loop node.a node.b) }
 {
-    let test = value_at(table, header, words, own, count, node.a as usize);
+    let test = value_at(table, words, own, count, node.a as usize);
     if test == 0 {
         pop(words);
     } else {
@@ -66,12 +67,12 @@ fn repeat(table: &[u8], header: Header, words: &mut [u32], own: u32, count: u32,
     }
 }
 
-fn call(table: &[u8], words: &mut [u32], p: usize)
-    requires stacked { Stacked words.old × (4 * (2 + p) + 3 < length table.now) × (p < procedures (decode table.now)) }
-    requires p_bound { body (decode table.now) p < 256 }
-    ensures { words.new ≡ replaced words.old (body (decode table.now) p) }
+fn call(table: &Table, words: &mut [u32], p: usize)
+    requires stacked { Stacked words.old × (p < procedures (decode table.now.bytes.now)) }
+    requires p_bound { body (decode table.now.bytes.now) p < 256 }
+    ensures { words.new ≡ replaced words.old (body (decode table.now.bytes.now) p) }
 {
-    let entry = body(table, p);
+    let entry = table.body(p);
     replace(words, entry as u32);
 }
 
@@ -88,25 +89,27 @@ fn write_latch(words: &mut [u32], place: u32, value: u32)
     }
 }
 
-fn latch(table: &[u8], header: Header, words: &mut [u32], own: u32, count: u32, a: usize, b: usize)
-    requires { Given table.now header words.old count × Stacked words.old × Part (decode table.now) a × Part (decode table.now) b }
+fn latch(table: &Table, words: &mut [u32], own: u32, count: u32, a: usize, b: usize)
+    requires { Given table.now.bytes.now words.old count × Stacked words.old
+        × Part (decode table.now.bytes.now) a × Part (decode table.now.bytes.now) b }
     ensures { words.new
-        ≡ advanced (decode table.now) (environment words.old own count) words.old
+        ≡ advanced (decode table.now.bytes.now) (environment words.old own count) words.old
         (Statement.latch a b) }
 {
-    let place = value_at(table, header, words, own, count, a);
-    let value = value_at(table, header, words, own, count, b);
+    let place = value_at(table, words, own, count, a);
+    let value = value_at(table, words, own, count, b);
     write_latch(words, place, value);
     pop(words);
 }
 
 // "ends the nearest while around it in the same procedure"
-fn leave(table: &[u8], header: Header, words: &mut [u32])
-    requires { Passing well_formed table.now header × Stacked words.old × (top words.old < nodes (decode table.now)) }
+fn leave(table: &Table, words: &mut [u32])
+    requires { Passing well_formed table.now.bytes.now × Stacked words.old
+        × (top words.old < nodes (decode table.now.bytes.now)) }
     ensures { words.new
-        ≡ unwound (nearest_loop (decode table.now) (top words.old)) (depth words.old) words.old }
+        ≡ unwound (nearest_loop (decode table.now.bytes.now) (top words.old)) (depth words.old) words.old }
 {
-    let w = nearest_loop(table, header, top(words) as usize);
+    let w = nearest_loop(table, top(words) as usize);
     unwind(words, w as u32);
 }
 
@@ -118,22 +121,22 @@ pub fn is_collective(kind: u32) -> bool
 }
 
 // The step of the top statement, which is no collective.
-pub fn advance(table: &[u8], header: Header, words: &mut [u32], own: u32, count: u32, node: Node)
-    requires { Turn table.now header words.old own count node }
+pub fn advance(table: &Table, words: &mut [u32], own: u32, count: u32, node: Node)
+    requires { Turn table.now.bytes.now words.old own count node }
     ensures { words.new
-        ≡ advanced (decode table.now) (environment words.old own count) words.old
-        (statement_at (decode table.now) (top words.old)) }
+        ≡ advanced (decode table.now.bytes.now) (environment words.old own count) words.old
+        (statement_at (decode table.now.bytes.now) (top words.old)) }
 {
     let a = node.a as usize;
     let b = node.b as usize;
     match node.kind {
-        ASSIGN => assign(table, header, words, own, count, a, b),
+        ASSIGN => assign(table, words, own, count, a, b),
         SEQUENCE => sequence(words, node.a, node.b),
-        BRANCH => branch(table, header, words, own, count, node),
-        LOOP => repeat(table, header, words, own, count, node),
+        BRANCH => branch(table, words, own, count, node),
+        LOOP => repeat(table, words, own, count, node),
         CALL => call(table, words, a),
-        LATCH => latch(table, header, words, own, count, a, b),
-        LEAVE => leave(table, header, words),
+        LATCH => latch(table, words, own, count, a, b),
+        LEAVE => leave(table, words),
         _ => pop(words),
     }
 }

@@ -12,6 +12,7 @@ use borrow.Author.Tests.{ltb-true, lt-leb, eq-eqb, eqb-false, ne_eqb}
 use Rattle.rules.specs.declared.Node.{Node}
 use Rattle.rules.specs.Table.{decode, procedures, nodes, node_at}
 use Rattle.rules.specs.WellFormed.{node_fits, kind_known}
+use Rattle.table.specs.declared.Header.{Header}
 use Rattle.table.specs.declared.fields.Role.TheVariants.{Unnamed, Procedure}
 use Rattle.table.specs.declared.fields.Roles.{Roles}
 use Rattle.table.specs.Marks.{with_bit}
@@ -46,7 +47,7 @@ other-operation =
     (⊎_elim (other_as 8 refl)
     (⊎_elim (other_as 9 refl) (⊎_elim (other_as 10 refl) (⊎_elim (other_as 11 refl) (other_as 12 refl))))))
 
-module _ (table : List ℕ) (v : Visit) (sized : Sized table v.header) (low : v.node < v.header.nodes) where
+module _ (table : List ℕ) {header : Header} (v : Visit) (sized : Sized table header) (low : v.node < header.nodes) where
   abbrev n : ℕ
   n = v.node
 
@@ -160,10 +161,10 @@ pub uncalled : {source : Source} {A : Type 0} → is_called source ≡ false →
 uncalled other called = never (sym (ap is_called called) ∙ other)
 
 -- a call that is taken names a procedure
-pub called-below : {table : List ℕ} {v : Visit} {m : Node} {before after : List ℕ} {r : Bool} → Sized table v.header
-    → Fields (decode table) v m (three Procedure Unnamed Unnamed) before after r → r ≡ true → m.a < v.header.procedures
+pub called-below : {table : List ℕ} {header : Header} {v : Visit} {m : Node} {before after : List ℕ} {r : Bool} → Sized table header
+    → Fields (decode table) v m (three Procedure Unnamed Unnamed) before after r → r ≡ true → m.a < header.procedures
 unfolding field_fits
-called-below {table} {v} {m} {before} sized f taken =
+called-below {table} {header} {v} {m} {before} sized f taken =
     let t = three-tests (decode table) (used_plane before) v m (three Procedure Unnamed Unnamed) (f.taken taken).free in
     let fits : ltb m.a (procedures (decode table)) ≡ true = free-fits (decode table) (used_plane before) v Procedure m.a t.a in
     omega (arith, ltb-true m.a (procedures (decode table)) fits, sized.procedures-read)

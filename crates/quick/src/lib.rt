@@ -3,7 +3,6 @@
 
 ghost use Rattle.std.specs.Prelude.{◌≡◌, ◌<◌, length};
 ghost use Rattle.rules.specs.Table.{decode, unpacked, node_at};
-ghost use Rattle.table.specs.Sized.{Sized};
 ghost use Rattle.quick.specs.Visited.{Visited};
 ghost use Rattle.visit.specs.Fields.{all_planes};
 
@@ -12,6 +11,7 @@ use rules::kinds::{
     LATCH, LEAVE, LESS, LOOP, NOTHING, OWN_NUMBER, PROCESS_COUNT, PRODUCT, QUOTIENT, SEQUENCE,
     SLOT, SUM, VARIABLE,
 };
+use table::Table;
 use table::fields::Role::{Area, Expression, Half, Procedure, Statement, Unnamed, Variable};
 use table::words::{kind_of, unpacked};
 use visit::facts::Source::{Always, Called, Flagged, Never, OfA, OfAOrB, OfB, OfBOrC, Unflagged};
@@ -22,10 +22,10 @@ use visit::{STUCK, Visit};
 
 // The refusal by the node's rule, once its parts are used, its fact and a leave noted; STUCK, and nothing changed, where a field does not
 // pass. Whether a while is left locally is not looked at here.
-pub fn quick(table: &[u8], planes: &mut [u32], visit: Visit, packed: u32) -> usize
-    requires sized { Sized table.now visit.header × (visit.node < visit.header.nodes) × (length planes.old ≡ all_planes) }
-    requires packed_value { unpacked packed ≡ node_at (decode table.now) visit.node }
-    ensures { Visited (decode table.now) visit planes.old planes.new result }
+pub fn quick(table: &Table, planes: &mut [u32], visit: Visit, packed: u32) -> usize
+    requires inside { (visit.node < table.now.header.nodes) × (length planes.old ≡ all_planes) }
+    requires packed_value { unpacked packed ≡ node_at (decode table.now.bytes.now) visit.node }
+    ensures { Visited (decode table.now.bytes.now) visit planes.old planes.new result }
 {
     match kind_of(packed) {
         CONSTANT => {

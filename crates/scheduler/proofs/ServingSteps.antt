@@ -16,7 +16,6 @@ use Rattle.rules.specs.Step.{process_fits, place_lacked, team_verdict, step_take
 use Rattle.rules.proofs.ChoiceLaws.{first-none, all-passed}
 use Rattle.rules.proofs.ServingLaws.{next-runs, taken-worked, not-refused}
 use Rattle.rules.proofs.VerdictLaws.{TeamSized, questions_left, team_22, processes_in_lem}
-use Rattle.table.specs.declared.Header.{Header}
 use Rattle.preconditions.specs.Asked.{GivenTeam}
 use Rattle.machine.specs.Outcomes.{Asked, Ready, Gives}
 use Rattle.machine.proofs.VerdictSteps.{denied-team, denied-place, taken_step}
@@ -26,19 +25,19 @@ use Rattle.scheduler.proofs.TurnLaws.{leaves}
 use Rattle.rules.specs.Table.{decode}
 
 -- `end` is what the whole call comes to
-pub record Between (table : List ℕ) (header : Header) (count turns : ℕ) (end : Served) (state roll : List ℕ) (made last unfit : ℕ)
+pub record Between (table : List ℕ) (count turns : ℕ) (end : Served) (state roll : List ℕ) (made last unfit : ℕ)
     : Type 0 where
-  pub team : GivenTeam table header state roll count
+  pub team : GivenTeam table state roll count
   pub listed : last < count
   pub apart : all_at_one_node roll count ≡ false
   pub unfit_is : unfit ≡ unfit_in (decode table) state roll count
   pub going : end ≡ serving table (turns - made) made last (team_of state roll)
 
 -- a call at its first place
-pub begun : {table : List ℕ} {header : Header} {state roll : List ℕ} {count given : ℕ} (turns : ℕ)
-    → Asked table header state roll count given
-    → Between table header count turns (serving table turns 0 given (team_of state roll)) state roll 0 given count
-begun {table} {header} {state} {roll} {count} turns asked =
+pub begun : {table : List ℕ} {state roll : List ℕ} {count given : ℕ} (turns : ℕ)
+    → Asked table state roll count given
+    → Between table count turns (serving table turns 0 given (team_of state roll)) state roll 0 given count
+begun {table} {state} {roll} {count} turns asked =
     let e : turns - 0 ≡ turns = omega arith in
     record {
       team = asked.team;
@@ -52,8 +51,8 @@ stopped : {end : Served} {made last : ℕ} {answer : Verdict} {state roll : List
     → end ≡ stopped_at made last answer (team_of state roll) → Serves end (service made last answer) state roll
 stopped e = rw e (record { made = refl; last = refl; answered = refl; left = refl; written = refl })
 
-module _ {table : List ℕ} {header : Header} {count turns : ℕ} {end : Served} {state roll : List ℕ} {made last unfit : ℕ}
-    (b : Between table header count turns end state roll made last unfit) where
+module _ {table : List ℕ} {count turns : ℕ} {end : Served} {state roll : List ℕ} {made last unfit : ℕ}
+    (b : Between table count turns end state roll made last unfit) where
   pub stops-used : made ≡ turns → Serves end (service turns last Accepted) state roll
   unfolding serving
   stops-used e =
@@ -108,7 +107,7 @@ module _ {table : List ℕ} {header : Header} {count turns : ℕ} {end : Served}
         holds = team_22 table state roll count next sized fits b.apart ∙ rw (lt-ltb next count next_low)
 
         -- what question 24 is asked with
-        pub asked-place : GivenTeam table header state roll count × (next < count) × (process_fits (decode table) state roll next ≡ true)
+        pub asked-place : GivenTeam table state roll count × (next < count) × (process_fits (decode table) state roll next ≡ true)
         asked-place = (b.team, next_low, fits next next_low)
 
         pub stops_24 : place_lacked (decode table) state roll count next ≡ true → Serves end (service made last (refused 24 next)) state roll
@@ -116,7 +115,7 @@ module _ {table : List ℕ} {header : Header} {count turns : ℕ} {end : Served}
             stops (denied-place table state roll next holds (rw (processes_in_lem roll count b.team.rolled) e))
 
         module _ (free : place_lacked (decode table) state roll count next ≡ false) where
-          pub ready : Ready table header state roll count next
+          pub ready : Ready table state roll count next
           ready = record { team = b.team; within = next_low; fits = fits; place = free }
 
           runs : status_at roll next ≡ running
@@ -135,7 +134,7 @@ module _ {table : List ℕ} {header : Header} {count turns : ℕ} {end : Served}
 
           -- a turn is made
           pub goes_on : {after rolled : List ℕ} {left : ℕ} → Makes (decode table) (step_taken (decode table) state roll count next) count left after rolled
-              → Between table header count turns end after rolled (made + 1) next left
+              → Between table count turns end after rolled (made + 1) next left
           goes_on m =
               let kept = leaves ready runs in
               let team = b.team in

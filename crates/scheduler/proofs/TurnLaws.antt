@@ -36,7 +36,6 @@ use Rattle.rules.proofs.StackLaws.{entry, top-entry, advanced-length, received-l
 use Rattle.rules.proofs.Standing.{Standing, runs as stands-running, waits, ends, arrival-brought, brought_record, standing-fits}
 use Rattle.rules.proofs.StatusLaws.{one_node_not_waiting}
 use Rattle.rules.proofs.TurnCases.{next_words, roll_ended, roll_arrived, by-step}
-use Rattle.table.specs.declared.Header.{Header}
 use Rattle.process.specs.Given.{Stacked}
 use Rattle.machine.specs.Outcomes.{Ready, Gives}
 use Rattle.machine.proofs.OutcomeLaws.{taken-run}
@@ -70,7 +69,7 @@ pub record Leaves (table : List ℕ) (count p : ℕ) (outcome : Outcome) : Type 
   pub but_leaves : (q : ℕ) → q < count → leave_fits (decode table) (process_at outcome.state q) ≡ true
       → process_fits (decode table) outcome.state outcome.roll q ≡ true
 
-module _ {table : List ℕ} {header : Header} {state roll : List ℕ} {count p : ℕ} (r : Ready table header state roll count p)
+module _ {table : List ℕ} {state roll : List ℕ} {count p : ℕ} (r : Ready table state roll count p)
     (runs : status_at roll p ≡ running) where
   abbrev words : List ℕ
   words = process_at state p
@@ -286,7 +285,7 @@ module _ {table : List ℕ} {header : Header} {state roll : List ℕ} {count p :
         subst (λ s. LeftOf s (decode table) (step_taken (decode table) state roll count p).state (step_taken (decode table) state roll count p).roll count p)
         (sym as_taken.answered ∙ e) leaves.left
 
-    pub turned : {answer : Answer} → result ≡ Ok answer → Turned table header after rolled count p answer.event
+    pub turned : {answer : Answer} → result ≡ Ok answer → Turned table after rolled count p answer.event
     turned e =
         rw (as_taken.left, as_taken.written)
         (record {

@@ -12,7 +12,6 @@ use Rattle.rules.specs.Step.{Outcome, leave_fits, process_fits}
 use Rattle.rules.specs.Table.{Program, decode}
 use Rattle.rules.specs.WellFormed.{is_statement, well_formed}
 use Rattle.table.specs.Header.{Passing}
-use Rattle.table.specs.declared.Header.{Header}
 use Rattle.process.specs.Given.{Stacked}
 use Rattle.scheduler.specs.declared.Service.{Service}
 
@@ -47,8 +46,8 @@ LeftBy (Completed node) program state roll count p = Unit {0}
 LeftBy Waiting program state roll count p = Fit program state roll count
 LeftBy Ended program state roll count p = Fit program state roll count
 
-pub record Turned (table : List ℕ) (header : Header) (state roll : List ℕ) (count p : ℕ) (event : Event) : Type 0 where
-  pub read : Passing well_formed table header
+pub record Turned (table : List ℕ) (state roll : List ℕ) (count p : ℕ) (event : Event) : Type 0 where
+  pub read : Passing well_formed table
   pub stated : length state ≡ process_words * count
   pub rolled : length roll ≡ arrival_size * count
   pub within : p < count

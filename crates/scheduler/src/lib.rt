@@ -2,7 +2,7 @@
 // two turns of a call only what the first of them may have changed is asked again.
 #![tactic(auto)]
 
-ghost use Rattle.std.specs.Prelude.{true, false, ◌≡◌, ◌+◌, ◌*◌, ◌%◌, ◌<◌, length};
+ghost use Rattle.std.specs.Prelude.{◌≡◌, ◌+◌, ◌*◌, ◌%◌, ◌<◌, length};
 ghost use Rattle.loops.specs.Upward.{has_leave};
 ghost use Rattle.rules.specs.Answers.{Accepted};
 ghost use Rattle.rules.specs.Arrivals.{arrival_size, running, status_at};
@@ -21,10 +21,9 @@ use preconditions::place_lacked;
 use process::stack::process_at;
 use rules::kinds::RUNNING;
 use rules::layout::ARRIVAL_WORDS;
-use rules::{Event, Stepped, Verdict};
-use table::Header;
+use rules::{Event, Verdict};
+use table::Table;
 use table::shape::refused;
-use table::words::header;
 
 // "how many turns were made and which bank was last", and the refusal, if one was added
 #[derive(Clone, Copy)]
@@ -66,29 +65,28 @@ fn next_process(roll: &[u32], count: u32, last: u32) -> Option<u32>
 
 // Question 23 after a turn of process p, put to what the turn may have changed.
 fn first_left(
-    table: &[u8],
-    header: Header,
+    table: &Table,
     state: &[u32],
     roll: &[u32],
     count: usize,
     p: usize,
     event: Event,
 ) -> usize
-    requires { Turned table.now header state.now roll.now count p event }
-    ensures { result ≡ unfit_in (decode table.now) state.now roll.now count }
+    requires { Turned table.now.bytes.now state.now roll.now count p event }
+    ensures { result ≡ unfit_in (decode table.now.bytes.now) state.now roll.now count }
 {
     match event {
         Event::Moved => {
             let words = process_at(state, p);
-            if !leave_on_top(table, header, words) {
+            if !leave_on_top(table, words) {
                 return count;
             }
-            if leave_fits(table, header, words) {
+            if leave_fits(table, words) {
                 return count;
             }
             p
         }
-        Event::Completed(_) => first_unfit(table, header, state, roll, count),
+        Event::Completed(_) => first_unfit(table, state, roll, count),
         Event::Finished => count,
         Event::Arrived(_) => count,
         Event::Waiting => count,
@@ -98,45 +96,43 @@ fn first_left(
 
 // One turn, and the first process that question 23 fails of after it.
 fn make_turn(
-    table: &[u8],
-    header: Header,
+    table: &Table,
     state: &mut [u32],
     roll: &mut [u32],
     count: u32,
     p: usize,
     leaving: bool,
 ) -> usize
-    requires { Ready table.now header state.old roll.old count p × (status_at roll.old p ≡ running)
-        × (leaving ≡ has_leave (decode table.now)) }
-    ensures { Makes (decode table.now) (step_taken (decode table.now) state.old roll.old count p)
+    requires { Ready table.now.bytes.now state.old roll.old count p × (status_at roll.old p ≡ running)
+        × (leaving ≡ has_leave (decode table.now.bytes.now)) }
+    ensures { Makes (decode table.now.bytes.now) (step_taken (decode table.now.bytes.now) state.old roll.old count p)
         count result state.new roll.new }
 {
-    let stepped = run(table, header, state, roll, count, p);
+    let stepped = run(table, state, roll, count, p);
     if !leaving {
         return count as usize;
     }
     match stepped {
-        Ok(answer) => first_left(table, header, state, roll, count as usize, p, answer.event),
+        Ok(answer) => first_left(table, state, roll, count as usize, p, answer.event),
         Err(_) => count as usize,
     }
 }
 
 // "until the turns are used or no bank runs"; "If a turn, the first included, would then be refused, serving stops before it"
 fn serve_asked(
-    table: &[u8],
-    header: Header,
+    table: &Table,
     state: &mut [u32],
     roll: &mut [u32],
     count: u32,
     given: u32,
     turns: u32,
 ) -> Service
-    requires { Asked table.now header state.old roll.old count given }
-    ensures { Serves (serving table.now turns 0 given (team_of state.old roll.old))
+    requires { Asked table.now.bytes.now state.old roll.old count given }
+    ensures { Serves (serving table.now.bytes.now turns 0 given (team_of state.old roll.old))
         result state.new roll.new }
 {
     // Where the table has no leave, a turn leaves nothing to ask of question 23.
-    let leaving = has_leave(table, header);
+    let leaving = has_leave(table);
     let mut last = given;
     let mut unfit = count as usize;
     for made in 0..turns {
@@ -146,10 +142,10 @@ fn serve_asked(
         if unfit < count as usize {
             return stopped(made, last, refused(23, unfit as u32));
         }
-        if place_lacked(table, header, state, roll, count, next as usize) {
+        if place_lacked(table, state, roll, count, next as usize) {
             return stopped(made, last, refused(24, next));
         }
-        unfit = make_turn(table, header, state, roll, count, next as usize, leaving);
+        unfit = make_turn(table, state, roll, count, next as usize, leaving);
         last = next;
     }
     stopped(turns, last, Ok(()))
@@ -161,7 +157,7 @@ fn serve_team(table: &[u8], state: &mut [u32], roll: &mut [u32], last: u32, turn
         result state.new roll.new }
 {
     let count = (roll.len() / ARRIVAL_WORDS) as u32;
-    serve_asked(table, header(table), state, roll, count, last, turns)
+    serve_asked(&Table::of(table), state, roll, count, last, turns)
 }
 
 // "A turn's questions up to 23 are asked first, also when no turn is made."

@@ -12,6 +12,7 @@ use Rattle.rules.specs.WellFormed.{procedure_fits, is_statement}
 use Rattle.table.specs.declared.Header.{Header}
 use Rattle.table.specs.Marks.{bit_at}
 use Rattle.table.specs.Sized.{Sized}
+use Rattle.table.proofs.ShapeLaws.{sized}
 use Rattle.visit.specs.Exact.{noted_code}
 use Rattle.visit.specs.Fields.{facts_plane, plane_words, all_planes}
 use Rattle.visit.specs.Least.{none, code, failure}
@@ -61,18 +62,15 @@ uses-met {table} {marks} {header} {first} {best} {r} sized swept lower e =
     }
 
 -- the body of a procedure of a table that passes 6 to 11
-module _ {table : List ℕ} {header : Header} (filled : Filled table header) {p : ℕ} (l : p < header.procedures) where
-  below : p < procedures (decode table)
-  below = omega (arith, filled.sized.procedures-read)
-
+module _ {table : List ℕ} (filled : Filled table) {p : ℕ} (l : p < procedures (decode table)) where
   body_below : body (decode table) p < nodes (decode table)
-  body_below = (fits filled).bodies p below
+  body_below = (fits filled).bodies p l
 
   module _ (planes : List ℕ) (size : length planes ≡ all_planes) where
     -- the body is a place of the plane that is lent
     pub body-lent : {n : ℕ} → n ≡ body (decode table) p → n < 32 * length (mid_of plane_words plane_words planes)
     body-lent e =
-        omega (arith, e, body_below, filled.sized.nodes-high, ap length (facts-lent planes size), facts-length planes size)
+        omega (arith, e, body_below, (sized table filled.shaped).nodes-high, ap length (facts-lent planes size), facts-length planes size)
 
     pub marked-body : {r : Bool} {n : ℕ} → n ≡ body (decode table) p → r ≡ bit_at (mid_of plane_words plane_words planes) n
         → r ≡ bit_at (facts_plane planes) (body (decode table) p)

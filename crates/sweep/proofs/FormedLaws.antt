@@ -48,7 +48,7 @@ module _ (strictly : Bool) (table : List ℕ) where
   shaped e = rw (in_parts strictly table, e)
 
 -- a table that passes 2 to 11
-module _ {table : List ℕ} {header : Header} (filled : Filled table header) where
+module _ {table : List ℕ} (filled : Filled table) where
   after7 : (question8 (decode table) then (question9 (decode table) then (question10 (decode table) then question11 (decode table)))) ≡ Accepted
   unfolding filled_verdict
   after7 = then_rest (question7 (decode table)) _ (then_rest (question6 table) _ filled.passed)
@@ -59,17 +59,17 @@ module _ {table : List ℕ} {header : Header} (filled : Filled table header) whe
   pub zero_fields : (n : ℕ) → n < nodes (decode table) → unnamed_zero (node_at (decode table) n) ≡ true
   zero_fields = each-passed 8 (nodes (decode table)) (λ n. unnamed_zero (node_at (decode table) n)) (then_first (question8 (decode table)) _ after7)
 
-  pub fits : Fitting table header
+  pub fits : Fitting table
   unfolding filled_verdict
   fits =
-      fitting table header filled.sized (then_first (question6 table) _ filled.passed)
+      fitting table (sized table filled.shaped) (then_first (question6 table) _ filled.passed)
       (then_first (question9 (decode table)) _ after8)
 
   pub none_miscalled : question12 (decode table) ≡ Accepted
-      → header.nodes ≡ first_failing (λ n. called_below (decode table) n (statement_at (decode table) n)) (nodes (decode table))
+      → nodes (decode table) ≡ first_failing (λ n. called_below (decode table) n (statement_at (decode table) n)) (nodes (decode table))
   none_miscalled passed =
       let test : ℕ → Bool = λ n. called_below (decode table) n (statement_at (decode table) n) in
-      filled.sized.nodes-read ∙ sym (first-none test (nodes (decode table)) (each-passed 12 (nodes (decode table)) test passed))
+      sym (first-none test (nodes (decode table)) (each-passed 12 (nodes (decode table)) test passed))
 
 -- 13 to 17 by a reading, from the plane of facts and the least refusal of 13 to 16, without and with a look at leaves
 module _ {program : Program} (formed : Formed program) (reading : ℕ → Statement)
@@ -100,14 +100,13 @@ module _ {program : Program} (formed : Formed program) (reading : ℕ → Statem
       (judged-least program reading (omega (arith, formed.nodes-high)) (omega (arith, formed.procedures-high))).0
 
 -- a well-formed table passes 2 to 11
-pub well-filled : {table : List ℕ} {header : Header} → Passing well_formed table header → Filled table header
+pub well-filled : {table : List ℕ} → Passing well_formed table → Filled table
 unfolding asked
 well-filled {table} read =
     let parts : (shape_verdict table then (filled_verdict table then calls_asked false (decode table))) ≡ Accepted =
     sym (in_parts false table) ∙ rw read.passed refl in
     let shaped = then_first (shape_verdict table) (filled_verdict table then calls_asked false (decode table)) parts in
     record {
-      sized = rw read.headed (sized table shaped);
       shaped = shaped;
       passed =
           then_first (filled_verdict table) (calls_asked false (decode table))
@@ -115,7 +114,7 @@ well-filled {table} read =
     }
 
 -- a table that passes 2 to 12
-pub well-built : {table : List ℕ} {header : Header} → Filled table header → question12 (decode table) ≡ Accepted
+pub well-built : {table : List ℕ} → Filled table → question12 (decode table) ≡ Accepted
     → well_built table ≡ Accepted
 unfolding well_built shape_verdict filled_verdict
 well-built {table} filled passed =

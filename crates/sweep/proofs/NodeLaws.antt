@@ -38,10 +38,10 @@ use Rattle.sweep.proofs.SweptLaws.{node_swept}
 
 abbrev visiting : Visit → ℕ → Visit
 visiting first n =
-    record { header = first.header; node = n; limit = first.limit }
+    record { node = n; limit = first.limit }
 
 module _ (table : List ℕ) (first : Visit) (end start : ℕ) (before : List ℕ) where
-  pub going_more : Sized table first.header → end ≤ nodes (decode table)
+  pub going_more : {header : Header} → Sized table header → end ≤ nodes (decode table)
       → (n rule found rule' : ℕ) (now after : List ℕ)
       → Going (decode table) first end start before now n rule
       → n < end
@@ -150,11 +150,11 @@ module _ (program : Program) where
           called = λ e. blocks-called program n (rw all at b.blocks);
         }
 
-    abbrev in_block : Header → Visit
-    in_block header = record { header = header; node = n; limit = p }
+    abbrev in_block : Visit
+    in_block = record { node = n; limit = p }
 
-    module _ (header : Header) (last : ℕ) (within : last < nodes program) (after : List ℕ) (r : Reached)
-        (q : Quickly program (in_block header) (last + 1) rule planes after r) where
+    module _ (last : ℕ) (within : last < nodes program) (after : List ℕ) (r : Reached)
+        (q : Quickly program in_block (last + 1) rule planes after r) where
       pub block-stops : InBlocks program after (record { reached = r; ordered = false })
       block-stops =
           record {
@@ -194,7 +194,7 @@ pub record Resting (program : Program) (planes : List ℕ) (best : ℕ) (r : Rea
 
 module _ (table : List ℕ) (header : Header) (sized : Sized table header) where
   abbrev from-node : ℕ → Visit
-  from-node n = record { header = header; node = n; limit = header.procedures }
+  from-node n = record { node = n; limit = header.procedures }
 
   pub resting_none : (blocked : Blocked) (planes after : List ℕ) (r : Reached) → InBlocks (decode table) planes blocked
       → Quickly (decode table) (from-node blocked.reached.node) header.nodes blocked.reached.rule planes after r

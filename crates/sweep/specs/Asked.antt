@@ -5,16 +5,14 @@ use Rattle.rules.specs.Acceptance.{judged_by}
 use Rattle.rules.specs.Choice.{first_failing}
 use Rattle.rules.specs.Table.{Program, decode, nodes, body, effect_flag, statement_at}
 use Rattle.rules.specs.WellFormed.{called_below, question12, question26, well_formed}
-use Rattle.table.specs.declared.Header.{Header}
 use Rattle.table.specs.Marks.{bit_at}
-use Rattle.table.specs.Sized.{Sized, shape_verdict}
+use Rattle.table.specs.Sized.{shape_verdict}
 use Rattle.visit.specs.Fields.{facts_plane, leaves_plane, all_planes}
 use Rattle.visit.specs.Least.{failure}
 use Rattle.sweep.specs.Swept.{filled_verdict}
 
 -- the table passes 2 to 11
-pub record Filled (table : List ℕ) (header : Header) : Type 0 where
-  pub sized : Sized table header
+pub record Filled (table : List ℕ) : Type 0 where
   pub shaped : shape_verdict table ≡ Accepted
   pub passed : filled_verdict table ≡ Accepted
 

@@ -11,7 +11,7 @@ ghost use Rattle.rules.specs.WellFormed.{question12, well_formed};
 ghost use Rattle.sweep.specs.Asked.{Filled, FirstCall, calls_asked, asked};
 ghost use Rattle.sweep.specs.Nodes.{KeptTo};
 ghost use Rattle.sweep.specs.Swept.{filled_verdict};
-ghost use Rattle.table.specs.Sized.{Sized, shape_verdict};
+ghost use Rattle.table.specs.Sized.{shape_verdict};
 ghost use Rattle.visit.specs.Fields.{all_planes};
 
 use crate::bodies::{sweep_uses, unflagged};
@@ -20,10 +20,9 @@ use calls::first_miscalled;
 use leaves::loose::first_loose;
 use leaves::pass_leaves;
 use rules::Verdict;
-use table::Header;
+use table::Table;
 use table::marks::clear;
 use table::shape::{refused, shape};
-use table::words::header;
 use visit::least::{NONE, verdict};
 use visit::{PLANE, PLANES};
 
@@ -56,55 +55,49 @@ pub struct Found {
 }
 
 // Question 12 of a table that passes 2 to 11: the walk only where the bodies do not stand in order, or a call seems to go up.
-fn first_call(table: &[u8], header: Header, planes: &mut [u32], ordered: bool) -> usize
-    requires { Filled table.now header × (length planes.old ≡ all_planes) × (ordered ≡ true → question12 (decode table.now) ≡ Accepted) }
-    ensures { FirstCall (decode table.now) planes.old planes.new result }
+fn first_call(table: &Table, planes: &mut [u32], ordered: bool) -> usize
+    requires { Filled table.now.bytes.now × (length planes.old ≡ all_planes) × (ordered ≡ true → question12 (decode table.now.bytes.now) ≡ Accepted) }
+    ensures { FirstCall (decode table.now.bytes.now) planes.old planes.new result }
 {
     if ordered {
-        return header.nodes;
+        return table.header.nodes;
     }
     clear(&mut planes[0..PLANE]);
-    first_miscalled(table, header, &mut planes[0..PLANE])
+    first_miscalled(table, &mut planes[0..PLANE])
 }
 
 // Questions 12, 26 and 13 to 17 of a table that passes 2 to 11, the last five only if it is judged.
-fn ask_calls(
-    table: &[u8],
-    header: Header,
-    planes: &mut [u32],
-    judged: bool,
-    found: Found,
-) -> Verdict
-    requires filled { Filled table.now header × (length planes.old ≡ all_planes) × (found.ordered ≡ true → question12 (decode table.now) ≡ Accepted) }
-    requires kept_to { KeptTo (decode table.now) (nodes (decode table.now)) found.rule planes.old }
-    ensures { result ≡ calls_asked judged (decode table.now) }
+fn ask_calls(table: &Table, planes: &mut [u32], judged: bool, found: Found) -> Verdict
+    requires filled { Filled table.now.bytes.now × (length planes.old ≡ all_planes) × (found.ordered ≡ true → question12 (decode table.now.bytes.now) ≡ Accepted) }
+    requires kept_to { KeptTo (decode table.now.bytes.now) (nodes (decode table.now.bytes.now)) found.rule planes.old }
+    ensures { result ≡ calls_asked judged (decode table.now.bytes.now) }
 {
-    let call = first_call(table, header, planes, found.ordered);
-    if call < header.nodes {
+    let call = first_call(table, planes, found.ordered);
+    if call < table.header.nodes {
         return refused(12, call as u32);
     }
-    let rule = pass_leaves(table, header, planes, found.rule);
-    let leave = first_loose(table, header, planes);
-    if leave < header.nodes {
+    let rule = pass_leaves(table, planes, found.rule);
+    let leave = first_loose(table, planes);
+    if leave < table.header.nodes {
         return refused(26, leave as u32);
     }
     if judged {
-        return verdict(unflagged(table, header, planes, rule));
+        return verdict(unflagged(table, planes, rule));
     }
     Ok(())
 }
 
 // Questions 6 to 12, 26 and 13 to 17 of a table that passes 2 to 5.
-fn ask_contents(table: &[u8], header: Header, planes: &mut [u32], judged: bool) -> Verdict
-    requires { Sized table.now header × (shape_verdict table.now ≡ Accepted) × (planes.old ≡ replicate all_planes 0) }
-    ensures { result ≡ (filled_verdict table.now then calls_asked judged (decode table.now)) }
+fn ask_contents(table: &Table, planes: &mut [u32], judged: bool) -> Verdict
+    requires { (shape_verdict table.now.bytes.now ≡ Accepted) × (planes.old ≡ replicate all_planes 0) }
+    ensures { result ≡ (filled_verdict table.now.bytes.now then calls_asked judged (decode table.now.bytes.now)) }
 {
-    let found = sweep_nodes(table, header, planes);
-    let best = sweep_uses(table, header, &mut planes[0..PLANE], found.best);
+    let found = sweep_nodes(table, planes);
+    let best = sweep_uses(table, &mut planes[0..PLANE], found.best);
     if best < NONE {
         return verdict(best);
     }
-    ask_calls(table, header, planes, judged, found)
+    ask_calls(table, planes, judged, found)
 }
 
 // Questions 2 to 12, 26 and 13 to 17, the last five only if the table is judged, over planes that are zero.
@@ -113,7 +106,7 @@ fn ask(table: &[u8], planes: &mut [u32], judged: bool) -> Verdict
     ensures { result ≡ asked judged table.now }
 {
     shape(table)?;
-    ask_contents(table, header(table), planes, judged)
+    ask_contents(&Table::of(table), planes, judged)
 }
 
 // Questions 2 to 12 and 26.

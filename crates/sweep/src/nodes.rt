@@ -2,39 +2,37 @@
 ghost use Rattle.std.specs.Prelude.{◌≡◌, ◌≤◌, length, replicate};
 ghost use Rattle.rules.specs.Table.{decode};
 ghost use Rattle.sweep.specs.Nodes.{Quickly, InBlocks, AllNodes};
-ghost use Rattle.table.specs.Sized.{Sized};
 ghost use Rattle.visit.specs.Least.{none};
 ghost use Rattle.visit.specs.Fields.{all_planes};
 
 use crate::{Blocked, Found, Reached};
 use quick::quick;
-use table::Header;
-use table::words::{body, packed_at};
+use table::Table;
 use visit::exact::exact;
 use visit::least::{NONE, lesser};
 use visit::{PLANE, STUCK, Visit};
 
 // On over the nodes at which nothing fails, up to `end` or the first that is stuck.
 pub fn sweep_quickly(
-    table: &[u8],
+    table: &Table,
     planes: &mut [u32],
     first: Visit,
     end: usize,
     start: usize,
 ) -> Reached
-    requires { Sized table.now first.header × (first.node ≤ end) × (end ≤ first.header.nodes) × (length planes.old ≡ all_planes) × (start ≤ none) }
-    ensures { Quickly (decode table.now) first end start planes.old planes.new result }
+    requires { (first.node ≤ end) × (end ≤ table.now.header.nodes) × (length planes.old ≡ all_planes) × (start ≤ none) }
+    ensures { Quickly (decode table.now.bytes.now) first end start planes.old planes.new result }
 {
-    let header = first.header;
+    // A copy of its own: behind the pointer the loop would read bytes and counts again each turn.
+    let own = *table;
     let mut rule = start;
     for node in first.node..end {
         let visit = Visit {
-            header,
             node,
             limit: first.limit,
         };
-        let packed = packed_at(table, header, node);
-        let found = quick(table, planes, visit, packed);
+        let packed = own.packed_at(node);
+        let found = quick(&own, planes, visit, packed);
         if found == STUCK {
             return Reached { node, rule };
         }
@@ -45,24 +43,23 @@ pub fn sweep_quickly(
 
 // Block by block, each the nodes up to its procedure's body, as long as the bodies stand in their procedures' order and the nodes call
 // lower ones only.
-fn sweep_blocks(table: &[u8], header: Header, planes: &mut [u32]) -> Blocked
-    requires { Sized table.now header × (planes.old ≡ replicate all_planes 0) }
-    ensures { InBlocks (decode table.now) planes.new result }
+fn sweep_blocks(table: &Table, planes: &mut [u32]) -> Blocked
+    requires { planes.old ≡ replicate all_planes 0 }
+    ensures { InBlocks (decode table.now.bytes.now) planes.new result }
 {
     let mut reached = Reached {
         node: 0,
         rule: NONE,
     };
-    for p in 0..header.procedures {
-        let last = body(table, p);
-        if last < reached.node || header.nodes <= last {
+    for p in 0..table.header.procedures {
+        let last = table.body(p);
+        if last < reached.node || table.header.nodes <= last {
             return Blocked {
                 reached,
                 ordered: false,
             };
         }
         let first = Visit {
-            header,
             node: reached.node,
             limit: p,
         };
@@ -81,15 +78,14 @@ fn sweep_blocks(table: &[u8], header: Header, planes: &mut [u32]) -> Blocked
 }
 
 // The nodes from there on, wherever they stand.
-fn sweep_rest(table: &[u8], header: Header, planes: &mut [u32], blocked: Blocked) -> Found
-    requires { Sized table.now header × InBlocks (decode table.now) planes.old blocked }
-    ensures { AllNodes (decode table.now) planes.new result }
+fn sweep_rest(table: &Table, planes: &mut [u32], blocked: Blocked) -> Found
+    requires { InBlocks (decode table.now.bytes.now) planes.old blocked }
+    ensures { AllNodes (decode table.now.bytes.now) planes.new result }
 {
-    let count = header.nodes;
-    let limit = header.procedures;
+    let count = table.header.nodes;
+    let limit = table.header.procedures;
     let mut best = NONE;
     let first = Visit {
-        header,
         node: blocked.reached.node,
         limit,
     };
@@ -97,12 +93,8 @@ fn sweep_rest(table: &[u8], header: Header, planes: &mut [u32], blocked: Blocked
     // A quick sweep says itself how far it got.
     while reached.node < count {
         let n = reached.node;
-        best = exact(table, header, &mut planes[0..PLANE], best, n);
-        let next = Visit {
-            header,
-            node: n + 1,
-            limit,
-        };
+        best = exact(table, &mut planes[0..PLANE], best, n);
+        let next = Visit { node: n + 1, limit };
         reached = sweep_quickly(table, planes, next, count, reached.rule);
     }
     Found {
@@ -112,10 +104,10 @@ fn sweep_rest(table: &[u8], header: Header, planes: &mut [u32], blocked: Blocked
     }
 }
 
-pub(crate) fn sweep_nodes(table: &[u8], header: Header, planes: &mut [u32]) -> Found
-    requires { Sized table.now header × (planes.old ≡ replicate all_planes 0) }
-    ensures { AllNodes (decode table.now) planes.new result }
+pub(crate) fn sweep_nodes(table: &Table, planes: &mut [u32]) -> Found
+    requires { planes.old ≡ replicate all_planes 0 }
+    ensures { AllNodes (decode table.now.bytes.now) planes.new result }
 {
-    let blocked = sweep_blocks(table, header, planes);
-    sweep_rest(table, header, planes, blocked)
+    let blocked = sweep_blocks(table, planes);
+    sweep_rest(table, planes, blocked)
 }

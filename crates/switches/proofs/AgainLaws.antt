@@ -29,7 +29,6 @@ use Rattle.sweep.specs.Asked.{Filled}
 use Rattle.sweep.specs.Nodes.{Quickly}
 use Rattle.sweep.proofs.FormedLaws.{zero_fields, fits}
 use Rattle.sweep.proofs.NodeLaws.{ruled-none}
-use Rattle.table.specs.declared.Header.{Header}
 use Rattle.table.specs.Marks.{bit_at, with_bit}
 use Rattle.table.proofs.BitLaws.{bit-other, bit-zero}
 use Rattle.visit.specs.Exact.{noted_code, repeated_code, node_best}
@@ -48,7 +47,7 @@ pub record Clean (table : List ℕ) (k : ℕ) : Type 0 where
   pub zero : unnamed_zero (node_at (decode table) k) ≡ true
   pub fits : node_fits (decode table) k ≡ true
 
-pub clean-nodes : {table : List ℕ} {header : Header} → Formed (decode table) → Filled table header → (k : ℕ) → k < nodes (decode table) → Clean table k
+pub clean-nodes : {table : List ℕ} → Formed (decode table) → Filled table → (k : ℕ) → k < nodes (decode table) → Clean table k
 clean-nodes formed filled k low =
     record { known = formed.known k low; zero = zero_fields filled k low; fits = (fits filled).fits k low }
 
@@ -169,9 +168,9 @@ module _ (table : List ℕ) (formed : Formed (decode table)) where
         record { counts = counted (decode table); each = each-counted (decode table); here = λ k from below. counts k from (omega arith) }
 
     -- nothing fails at any node, so it is swept to its end
-    module _ (clean : (k : ℕ) → k < nodes (decode table) → Clean table k) (header : Header) (limit : header.procedures ≡ procedures (decode table))
+    module _ (clean : (k : ℕ) → k < nodes (decode table) → Clean table k) (top : ℕ) (limit : top ≡ procedures (decode table))
         (planes after : List ℕ) (rule : ℕ) (r : Reached) (so_far : VisitedTo (decode table) n planes rule)
-        (q : Quickly (decode table) (record { header = header; node = n; limit = header.procedures }) end rule planes after r) where
+        (q : Quickly (decode table) (record { node = n; limit = top }) end rule planes after r) where
       used-after : (k : ℕ) → k < 256 → bit_at (used_plane after) k ≡ true
           → (m : ℕ) × (m < r.node) × (1 ≤ occurrences k (parts_at (decode table) m))
       used-after k l e =

@@ -14,7 +14,7 @@ use crate::{ASIDE, FOUR_PLANES};
 use leaves::pass_nodes;
 use loops::has_leave;
 use sweep::nodes::sweep_quickly;
-use table::Header;
+use table::Table;
 use table::marks::marked;
 use visit::Visit;
 use visit::least::NONE;
@@ -47,19 +47,18 @@ fn next_stretch(planes: &[u32], n: usize, count: usize) -> Option<(usize, usize)
 }
 
 // The least refusal of 13 to 16 at the nodes that count, as far as that does not look at leaves; their facts are kept.
-pub(crate) fn visit_again(table: &[u8], header: Header, planes: &mut [u32]) -> usize
-    requires { Passing well_formed table.now header × Beside (decode table.now) planes.old
+pub(crate) fn visit_again(table: &Table, planes: &mut [u32]) -> usize
+    requires { Passing well_formed table.now.bytes.now × Beside (decode table.now.bytes.now) planes.old
         × (work_planes planes.old ≡ replicate all_planes 0) }
-    ensures { Beside (decode table.now) planes.new
-        × VisitedTo (decode table.now) (nodes (decode table.now)) (work_planes planes.new) result }
+    ensures { Beside (decode table.now.bytes.now) planes.new
+        × VisitedTo (decode table.now.bytes.now) (nodes (decode table.now.bytes.now)) (work_planes planes.new) result }
 {
     let mut least = NONE;
     let mut n = 0;
-    while let Some((node, end)) = next_stretch(planes, n, header.nodes) {
+    while let Some((node, end)) = next_stretch(planes, n, table.header.nodes) {
         let first = Visit {
-            header,
             node,
-            limit: header.procedures,
+            limit: table.header.procedures,
         };
         least = sweep_quickly(table, &mut planes[0..ASIDE], first, end, least).rule;
         n = end;
@@ -68,19 +67,19 @@ pub(crate) fn visit_again(table: &[u8], header: Header, planes: &mut [u32]) -> u
 }
 
 // The least refusal once 16 is asked of whiles that are left locally and count, over planes that are cleared for it.
-pub(crate) fn pass_again(table: &[u8], header: Header, planes: &mut [u32], rule: usize) -> usize
-    requires passing { Passing well_formed table.now header × Beside (decode table.now) planes.old × (rule ≤ none) }
+pub(crate) fn pass_again(table: &Table, planes: &mut [u32], rule: usize) -> usize
+    requires passing { Passing well_formed table.now.bytes.now × Beside (decode table.now.bytes.now) planes.old × (rule ≤ none) }
     requires planes_value { (left_plane (work_planes planes.old) ≡ replicate plane_words 0) × (leaves_plane (work_planes planes.old) ≡ replicate plane_words 0) }
-    ensures { Beside (decode table.now) planes.new
-        × LeavesPassed (decode table.now) (counted (decode table.now)) rule (work_planes planes.old) (work_planes planes.new) result }
+    ensures { Beside (decode table.now.bytes.now) planes.new
+        × LeavesPassed (decode table.now.bytes.now) (counted (decode table.now.bytes.now)) rule (work_planes planes.old) (work_planes planes.new) result }
 {
-    if !has_leave(table, header) {
+    if !has_leave(table) {
         return rule;
     }
     let mut least = rule;
     let mut n = 0;
-    while let Some((first, end)) = next_stretch(planes, n, header.nodes) {
-        least = pass_nodes(table, header, &mut planes[0..ASIDE], least, first, end);
+    while let Some((first, end)) = next_stretch(planes, n, table.header.nodes) {
+        least = pass_nodes(table, &mut planes[0..ASIDE], least, first, end);
         n = end;
     }
     least

@@ -8,9 +8,8 @@ ghost use Rattle.table.specs.Marks.{with_bits};
 ghost use Rattle.visit.specs.Fields.{plane_words};
 
 use rules::kinds::{BRANCH, LOOP, SEQUENCE};
-use table::Header;
+use table::Table;
 use table::marks::{mark, marked};
-use table::words::{kind_at, node_at};
 use values::fixing::fixing;
 
 // Both of two statements.
@@ -23,11 +22,11 @@ fn set_both(aside: &mut [u32], x: u32, y: u32)
 }
 
 // All statements that node n, which is set aside, has as parts.
-fn set_parts(table: &[u8], header: Header, aside: &mut [u32], n: usize)
-    requires { Passing well_formed table.now header × (n < nodes (decode table.now)) × (length aside.old ≡ plane_words) }
-    ensures { aside.new ≡ with_bits aside.old (inner_parts (statement_at (decode table.now) n)) }
+fn set_parts(table: &Table, aside: &mut [u32], n: usize)
+    requires { Passing well_formed table.now.bytes.now × (n < nodes (decode table.now.bytes.now)) × (length aside.old ≡ plane_words) }
+    ensures { aside.new ≡ with_bits aside.old (inner_parts (statement_at (decode table.now.bytes.now) n)) }
 {
-    let node = node_at(table, header, n);
+    let node = table.node_at(n);
     match node.kind {
         SEQUENCE => set_both(aside, node.a, node.b),
         BRANCH => set_both(aside, node.b, node.c),
@@ -44,40 +43,40 @@ fn not_taken(value: u32, first: u32, second: u32) -> u32
 }
 
 // Of node n, if it is an if with a fixed condition, the branch that will never be taken.
-fn set_branch(table: &[u8], header: Header, aside: &mut [u32], n: usize)
-    requires { Passing well_formed table.now header × (n < nodes (decode table.now)) × (length aside.old ≡ plane_words) }
-    ensures { aside.new ≡ with_bits aside.old (never_parts (decode table.now) (statement_at (decode table.now) n)) }
+fn set_branch(table: &Table, aside: &mut [u32], n: usize)
+    requires { Passing well_formed table.now.bytes.now × (n < nodes (decode table.now.bytes.now)) × (length aside.old ≡ plane_words) }
+    ensures { aside.new ≡ with_bits aside.old (never_parts (decode table.now.bytes.now) (statement_at (decode table.now.bytes.now) n)) }
 {
-    let node = node_at(table, header, n);
-    if node.kind != 19 {
+    let node = table.node_at(n);
+    if node.kind != BRANCH {
         return;
     }
-    let Some(value) = fixing(table, header, node.a as usize) else {
+    let Some(value) = fixing(table, node.a as usize) else {
         return;
     };
     mark(aside, not_taken(value, node.b, node.c) as usize);
 }
 
 // Most nodes are expressions, and no kind below that of a sequence has a statement as a part.
-fn set_node(table: &[u8], header: Header, aside: &mut [u32], n: usize)
-    requires { Passing well_formed table.now header × (n < nodes (decode table.now)) × (length aside.old ≡ plane_words) }
-    ensures { aside.new ≡ aside_marks (decode table.now) n aside.old }
+fn set_node(table: &Table, aside: &mut [u32], n: usize)
+    requires { Passing well_formed table.now.bytes.now × (n < nodes (decode table.now.bytes.now)) × (length aside.old ≡ plane_words) }
+    ensures { aside.new ≡ aside_marks (decode table.now.bytes.now) n aside.old }
 {
-    if kind_at(table, header, n) < SEQUENCE {
+    if table.kind_at(n) < SEQUENCE {
         return;
     }
     if marked(aside, n) {
-        set_parts(table, header, aside, n);
+        set_parts(table, aside, n);
     } else {
-        set_branch(table, header, aside, n);
+        set_branch(table, aside, n);
     }
 }
 
-pub(crate) fn set_aside(table: &[u8], header: Header, aside: &mut [u32])
-    requires { Passing well_formed table.now header × (aside.old ≡ replicate plane_words 0) }
-    ensures { Aside (decode table.now) aside.new }
+pub(crate) fn set_aside(table: &Table, aside: &mut [u32])
+    requires { Passing well_formed table.now.bytes.now × (aside.old ≡ replicate plane_words 0) }
+    ensures { Aside (decode table.now.bytes.now) aside.new }
 {
-    for n in (0..header.nodes).rev() {
-        set_node(table, header, aside, n);
+    for n in (0..table.header.nodes).rev() {
+        set_node(table, aside, n);
     }
 }

@@ -19,9 +19,8 @@ use leaves::clear_leaves;
 use rules::Verdict;
 use sweep::accepted;
 use sweep::bodies::unflagged;
-use table::Header;
+use table::Table;
 use table::marks::{clear, none_marked};
-use table::words::header;
 use visit::least::verdict;
 use visit::{PLANE, PLANES};
 
@@ -41,29 +40,29 @@ fn by_rules(number: u32) -> bool
 }
 
 // Questions 13 to 17 of a table that passes 2 to 12 and 26, where the statements of dead branches are set aside.
-fn judge_counted(table: &[u8], header: Header, planes: &mut [u32]) -> Verdict
-    requires { Passing well_formed table.now header × Beside (decode table.now) planes.old }
-    ensures { result ≡ judged (decode table.now) }
+fn judge_counted(table: &Table, planes: &mut [u32]) -> Verdict
+    requires { Passing well_formed table.now.bytes.now × Beside (decode table.now.bytes.now) planes.old }
+    ensures { result ≡ judged (decode table.now.bytes.now) }
 {
     clear(&mut planes[0..ASIDE]);
-    let guards = visit_again(table, header, planes);
+    let guards = visit_again(table, planes);
     clear_leaves(&mut planes[0..ASIDE]);
-    let rule = pass_again(table, header, planes, guards);
-    verdict(unflagged(table, header, &planes[0..ASIDE], rule))
+    let rule = pass_again(table, planes, guards);
+    verdict(unflagged(table, &planes[0..ASIDE], rule))
 }
 
 // The same of one that gets the answer `whole` if every node counts, which stands where nothing is to be set aside.
-fn judge_again(table: &[u8], header: Header, planes: &mut [u32], whole: Verdict) -> Verdict
-    requires { Passing well_formed table.now header × (length planes.old ≡ four_planes)
+fn judge_again(table: &Table, planes: &mut [u32], whole: Verdict) -> Verdict
+    requires { Passing well_formed table.now.bytes.now × (length planes.old ≡ four_planes)
         × (aside_plane planes.old ≡ replicate plane_words 0)
-        × (whole ≡ judged_by (decode table.now) (statement_at (decode table.now))) }
-    ensures { result ≡ judged (decode table.now) }
+        × (whole ≡ judged_by (decode table.now.bytes.now) (statement_at (decode table.now.bytes.now))) }
+    ensures { result ≡ judged (decode table.now.bytes.now) }
 {
-    set_aside(table, header, &mut planes[ASIDE..FOUR_PLANES]);
+    set_aside(table, &mut planes[ASIDE..FOUR_PLANES]);
     if none_marked(&planes[ASIDE..FOUR_PLANES]) {
         return whole;
     }
-    judge_counted(table, header, planes)
+    judge_counted(table, planes)
 }
 
 // Questions 2 to 12, 26 and 13 to 17, over planes that are zero.
@@ -73,12 +72,7 @@ pub fn answer(table: &[u8], planes: &mut [u32]) -> Verdict
 {
     let whole = accepted(table, &mut planes[0..ASIDE]);
     match whole {
-        Err(refusal) if by_rules(refusal.number) => judge_again(
-            table,
-            header(table),
-            planes,
-            whole,
-        ),
+        Err(refusal) if by_rules(refusal.number) => judge_again(&Table::of(table), planes, whole),
         _ => whole,
     }
 }

@@ -11,9 +11,9 @@ use Rattle.rules.specs.Table.{Program, decode, procedures, nodes, body, node_at,
 use Rattle.rules.specs.WellFormed.{node_fits, procedure_fits, question6, question9}
 use Rattle.rules.proofs.AnswerLaws.{both_right, each-passed}
 use Rattle.rules.proofs.PartLaws.{expression_part-below, statement_part-below}
-use Rattle.table.specs.declared.Header.{Header}
 use Rattle.table.specs.declared.fields.Role.{Role}
 use Rattle.table.specs.declared.fields.Role.TheVariants.{Unnamed, Variable, Expression, Statement, Procedure, Half, Area}
+use Rattle.table.specs.Header.{header_of}
 use Rattle.table.specs.Roles.{roles_of, is_part, field_fits}
 use Rattle.table.specs.Sized.{Sized}
 use Rattle.table.specs.Uses.{Fitting}
@@ -25,10 +25,10 @@ unfolding procedure_fits
 body-low table p fits =
     ltb-true (body (decode table) p) (nodes (decode table)) (both_right (eqb (procedure_word table p % 2 ^ 23) 0) _ fits)
 
-pub fitting : (table : List ℕ) (header : Header) → Sized table header → question6 table ≡ Accepted
+pub fitting : (table : List ℕ) → Sized table (header_of table) → question6 table ≡ Accepted
     → question9 (decode table) ≡ Accepted
-    → Fitting table header
-fitting table header s passed6 passed9 =
+    → Fitting table
+fitting table s passed6 passed9 =
     record {
       sized = s;
       bodies = λ p l. body-low table p (each-passed 6 (procedures (decode table)) (procedure_fits table) passed6 p l);

@@ -2,13 +2,13 @@
 use Rattle.std.specs.Prelude.{true, cond, List, [], ◌∷◌, ◌≡◌, ℕ, ◌<◌, min}
 use Rattle.rules.specs.Table.{Program, decode, procedures, nodes, body, call, statement_at}
 use Rattle.rules.specs.WellFormed.{node_fits}
-use Rattle.table.specs.declared.Header.{Header}
 use Rattle.table.specs.Marks.{bit_at, with_bit}
+use Rattle.table.specs.Header.{header_of}
 use Rattle.table.specs.Sized.{Sized}
 
 -- what questions 2 to 9 establish: bodies and parts lie below what names them
-pub record Fitting (table : List ℕ) (header : Header) : Type 0 where
-  pub sized : Sized table header
+pub record Fitting (table : List ℕ) : Type 0 where
+  pub sized : Sized table (header_of table)
   pub bodies : (p : ℕ) → p < procedures (decode table) → body (decode table) p < nodes (decode table)
   pub fits : (n : ℕ) → n < nodes (decode table) → node_fits (decode table) n ≡ true
 

@@ -4,11 +4,10 @@ ghost use Rattle.rules.specs.Table.{decode, body};
 ghost use Rattle.rules.specs.WellFormed.{procedure_fits, is_expression, is_statement, kind_known, unnamed_zero};
 ghost use Rattle.rules.specs.WellFormed.{expression_part, statement_part, node_fits};
 ghost use Rattle.table.specs.Roles.{roles_of, is_part, field_zero, field_fits};
-ghost use Rattle.table.specs.Sized.{Sized};
 
-use crate::Header;
+use crate::Table;
 use crate::shape::between;
-use crate::words::{body, node_at, word};
+use crate::words::word;
 use rules::Node;
 use rules::kinds::{
     ASSIGN, BOTH, BRANCH, BROADCAST, CALL, CONSTANT, DIFFERENCE, DOOR, EQUAL, EXCHANGE,
@@ -67,57 +66,6 @@ pub fn is_part(role: Role) -> bool
     matches!(role, Role::Expression | Role::Statement)
 }
 
-// Question 6.
-pub fn procedure_fits(table: &[u8], header: Header, p: usize) -> bool
-    requires { Sized table.now header × (p < header.procedures) }
-    ensures { result ≡ procedure_fits table.now p }
-{
-    if word(table, 2 + p) % 8388608 != 0 {
-        return false;
-    }
-    body(table, p) < header.nodes
-}
-
-pub fn is_expression(table: &[u8], header: Header, n: usize) -> bool
-    requires { Sized table.now header × (n < header.nodes) }
-    ensures { result ≡ is_expression (decode table.now) n }
-{
-    node_at(table, header, n).kind <= LAST_EXPRESSION
-}
-
-pub fn is_statement(table: &[u8], header: Header, n: usize) -> bool
-    requires { Sized table.now header × (n < header.nodes) }
-    ensures { result ≡ is_statement (decode table.now) n }
-{
-    between(
-        FIRST_STATEMENT as usize,
-        node_at(table, header, n).kind as usize,
-        LAST_STATEMENT as usize,
-    )
-}
-
-// The same of any number: a node past the last is no statement.
-pub fn names_statement(table: &[u8], header: Header, n: usize) -> bool
-    requires { Sized table.now header }
-    ensures { result ≡ is_statement (decode table.now) n }
-{
-    if header.nodes <= n {
-        return false;
-    }
-    is_statement(table, header, n)
-}
-
-// Question 7.
-pub fn kind_known(table: &[u8], header: Header, n: usize) -> bool
-    requires { Sized table.now header × (n < header.nodes) }
-    ensures { result ≡ kind_known (decode table.now) n }
-{
-    if is_expression(table, header, n) {
-        return true;
-    }
-    is_statement(table, header, n)
-}
-
 pub fn field_zero(role: Role, value: u32) -> bool
     ensures { result ≡ field_zero role value }
 {
@@ -141,60 +89,112 @@ pub fn unnamed_zero(node: Node) -> bool
     field_zero(roles.c, node.c)
 }
 
-fn expression_part(table: &[u8], header: Header, n: usize, a: usize) -> bool
-    requires { Sized table.now header × (n < header.nodes) }
-    ensures { result ≡ expression_part (decode table.now) n a }
-{
-    if n <= a {
-        return false;
+impl Table<'_> {
+    // Question 6.
+    pub fn procedure_fits(&self, p: usize) -> bool
+        requires { p < self.now.header.procedures }
+        ensures { result ≡ procedure_fits self.now.bytes.now p }
+    {
+        if word(self.bytes, 2 + p) % 8388608 != 0 {
+            return false;
+        }
+        self.body(p) < self.header.nodes
     }
-    is_expression(table, header, a)
-}
 
-fn statement_part(table: &[u8], header: Header, n: usize, a: usize) -> bool
-    requires { Sized table.now header × (n < header.nodes) }
-    ensures { result ≡ statement_part (decode table.now) n a }
-{
-    if n <= a {
-        return false;
+    pub fn is_expression(&self, n: usize) -> bool
+        requires { n < self.now.header.nodes }
+        ensures { result ≡ is_expression (decode self.now.bytes.now) n }
+    {
+        self.node_at(n).kind <= LAST_EXPRESSION
     }
-    is_statement(table, header, a)
-}
 
-pub fn field_fits(table: &[u8], header: Header, n: usize, role: Role, value: usize) -> bool
-    requires { Sized table.now header × (n < header.nodes) }
-    ensures { result ≡ field_fits (decode table.now) n role value }
-{
-    match role {
-        Role::Variable => value < header.variables,
-        Role::Expression => expression_part(table, header, n, value),
-        Role::Statement => statement_part(table, header, n, value),
-        Role::Procedure => value < header.procedures,
-        Role::Area => value < GATHERED_AREAS,
-        Role::Unnamed | Role::Half => true,
+    pub fn is_statement(&self, n: usize) -> bool
+        requires { n < self.now.header.nodes }
+        ensures { result ≡ is_statement (decode self.now.bytes.now) n }
+    {
+        between(
+            FIRST_STATEMENT as usize,
+            self.node_at(n).kind as usize,
+            LAST_STATEMENT as usize,
+        )
     }
-}
 
-// Question 9.
-pub fn node_fits(table: &[u8], header: Header, n: usize) -> bool
-    requires { Sized table.now header × (n < header.nodes) }
-    ensures { result ≡ node_fits (decode table.now) n }
-{
-    let node = node_at(table, header, n);
-    let roles = roles_of(node.kind);
-    if !field_fits(table, header, n, roles.a, node.a as usize) {
-        return false;
+    // The same of any number: a node past the last is no statement.
+    pub fn names_statement(&self, n: usize) -> bool
+        ensures { result ≡ is_statement (decode self.now.bytes.now) n }
+    {
+        if self.header.nodes <= n {
+            return false;
+        }
+        self.is_statement(n)
     }
-    if !field_fits(table, header, n, roles.b, node.b as usize) {
-        return false;
-    }
-    field_fits(table, header, n, roles.c, node.c as usize)
-}
 
-// Question 10.
-pub fn body_is_statement(table: &[u8], header: Header, p: usize) -> bool
-    requires { Sized table.now header × (p < header.procedures) }
-    ensures { result ≡ is_statement (decode table.now) (body (decode table.now) p) }
-{
-    names_statement(table, header, body(table, p))
+    // Question 7.
+    pub fn kind_known(&self, n: usize) -> bool
+        requires { n < self.now.header.nodes }
+        ensures { result ≡ kind_known (decode self.now.bytes.now) n }
+    {
+        if self.is_expression(n) {
+            return true;
+        }
+        self.is_statement(n)
+    }
+
+    fn expression_part(&self, n: usize, a: usize) -> bool
+        requires { n < self.now.header.nodes }
+        ensures { result ≡ expression_part (decode self.now.bytes.now) n a }
+    {
+        if n <= a {
+            return false;
+        }
+        self.is_expression(a)
+    }
+
+    fn statement_part(&self, n: usize, a: usize) -> bool
+        requires { n < self.now.header.nodes }
+        ensures { result ≡ statement_part (decode self.now.bytes.now) n a }
+    {
+        if n <= a {
+            return false;
+        }
+        self.is_statement(a)
+    }
+
+    pub fn field_fits(&self, n: usize, role: Role, value: usize) -> bool
+        requires { n < self.now.header.nodes }
+        ensures { result ≡ field_fits (decode self.now.bytes.now) n role value }
+    {
+        match role {
+            Role::Variable => value < self.header.variables,
+            Role::Expression => self.expression_part(n, value),
+            Role::Statement => self.statement_part(n, value),
+            Role::Procedure => value < self.header.procedures,
+            Role::Area => value < GATHERED_AREAS,
+            Role::Unnamed | Role::Half => true,
+        }
+    }
+
+    // Question 9.
+    pub fn node_fits(&self, n: usize) -> bool
+        requires { n < self.now.header.nodes }
+        ensures { result ≡ node_fits (decode self.now.bytes.now) n }
+    {
+        let node = self.node_at(n);
+        let roles = roles_of(node.kind);
+        if !self.field_fits(n, roles.a, node.a as usize) {
+            return false;
+        }
+        if !self.field_fits(n, roles.b, node.b as usize) {
+            return false;
+        }
+        self.field_fits(n, roles.c, node.c as usize)
+    }
+
+    // Question 10.
+    pub fn body_is_statement(&self, p: usize) -> bool
+        requires { p < self.now.header.procedures }
+        ensures { result ≡ is_statement (decode self.now.bytes.now) (body (decode self.now.bytes.now) p) }
+    {
+        self.names_statement(self.body(p))
+    }
 }

@@ -9,7 +9,6 @@ use Rattle.rules.proofs.KindLaws.{operation_of, expression-here}
 use Rattle.rules.proofs.PartLaws.{expression_part-below, expression_part-sort}
 use Rattle.rules.proofs.ValueLaws.{value-at}
 use Rattle.table.specs.Header.{Passing}
-use Rattle.table.specs.declared.Header.{Header}
 use Rattle.values.specs.Given.{operator_of, Part}
 
 pub record Packed (m : Node) : Type 0 where
@@ -50,7 +49,7 @@ module _ (program : Program) (formed : Formed program) (n : ℕ) (m : Node) (her
   kind-low e = rw (← here) at (leb-true (node_at program n).kind last_expression e)
 
 -- and of the node that is read of a table that passed 2 to 12 and 26
-module _ (table : List ℕ) (header : Header) (read : Passing well_formed table header) (n : ℕ) (part : Part (decode table) n) (m : Node)
+module _ (table : List ℕ) (read : Passing well_formed table) (n : ℕ) (part : Part (decode table) n) (m : Node)
     (here : m ≡ node_at (decode table) n) where
   pub read-shape : Formed (decode table)
   read-shape = formed table read.passed

@@ -4,11 +4,10 @@ use Rattle.rules.specs.Process.{process_words, most_processes}
 use Rattle.rules.specs.Table.{Program, nodes, Operator, sum, difference, product, quotient, less, equal, both}
 use Rattle.rules.specs.WellFormed.{well_formed, is_expression}
 use Rattle.table.specs.Header.{Passing}
-use Rattle.table.specs.declared.Header.{Header}
 
--- a well-formed table with its header, one process's words, and a count of processes
-pub record Given (table : List ℕ) (header : Header) (words : List ℕ) (count : ℕ) : Type 0 where
-  pub read : Passing well_formed table header
+-- a well-formed table, one process's words, and a count of processes
+pub record Given (table : List ℕ) (words : List ℕ) (count : ℕ) : Type 0 where
+  pub read : Passing well_formed table
   pub sized : length words ≡ process_words
   pub few : count ≤ most_processes
 

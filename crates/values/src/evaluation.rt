@@ -1,8 +1,8 @@
 // The value of an expression: "worked out by recursion from its node down to its parts".
-ghost use Rattle.std.specs.Prelude.{◌≡◌, ℕ, ◌+◌, ◌*◌, ◌/◌, ◌%◌, ◌<◌, ◌≤◌, length, if◌then◌else◌, nat_lt, slice_index};
+ghost use Rattle.std.specs.Prelude.{◌≡◌, ℕ, ◌+◌, ◌*◌, ◌/◌, ◌<◌, ◌≤◌, length, if◌then◌else◌, nat_lt, slice_index};
 ghost use Rattle.rules.specs.Evaluation.{applied, value_of, value, doors, gathered_slot};
 ghost use Rattle.rules.specs.Process.{most_processes, gathered_at, doors_at, process_words, environment};
-ghost use Rattle.rules.specs.Table.{decode, Operator, expression_of, gathered_areas};
+ghost use Rattle.rules.specs.Table.{decode, expression_of, gathered_areas};
 ghost use Rattle.values.specs.Given.{Given, Part, operator_of};
 
 use rules::Node;
@@ -10,8 +10,7 @@ use rules::kinds::{
     CONSTANT, DIFFERENCE, DOOR, EQUAL, LESS, OWN_NUMBER, PRODUCT, QUOTIENT, SLOT, SUM, VARIABLE,
 };
 use rules::layout::{DOOR_PLACES, DOORS_AT, slot_at};
-use table::Header;
-use table::words::node_at;
+use table::Table;
 
 // Kinds 6 to 12 on the values of the two parts.
 pub(crate) fn apply(kind: u32, x: u32, y: u32) -> u32
@@ -80,36 +79,36 @@ fn slot(words: &[u32], count: u32, x: u32, area: usize) -> u32
 
 // Calls itself, through `value_at`, on the parts, which lie below the node: the node number falls.
 #[cycle(evaluate_value_at)]
-pub fn evaluate(table: &[u8], header: Header, words: &[u32], own: u32, count: u32, n: usize) -> u32
-    requires given { Given table.now header words.now count }
-    requires part { Part (decode table.now) n }
-    ensures { result ≡ value (decode table.now) (environment words.now own count) n }
+pub fn evaluate(table: &Table, words: &[u32], own: u32, count: u32, n: usize) -> u32
+    requires given { Given table.now.bytes.now words.now count }
+    requires part { Part (decode table.now.bytes.now) n }
+    ensures { result ≡ value (decode table.now.bytes.now) (environment words.now own count) n }
 {
-    let node = node_at(table, header, n);
+    let node = table.node_at(n);
     if node.kind < DOOR {
         return leaf(node, words, own, count);
     }
-    let x = value_at(table, header, words, own, count, node.a as usize);
+    let x = value_at(table, words, own, count, node.a as usize);
     if node.kind == DOOR {
         return door(words, x);
     }
     if node.kind == SLOT {
         return slot(words, count, x, node.b as usize);
     }
-    let y = value_at(table, header, words, own, count, node.b as usize);
+    let y = value_at(table, words, own, count, node.b as usize);
     apply(node.kind, x, y)
 }
 
 // The same, and short enough to stand in its callers: most parts are leaves, and a call would cost more than they do.
 #[cycle(evaluate_value_at)]
-pub fn value_at(table: &[u8], header: Header, words: &[u32], own: u32, count: u32, n: usize) -> u32
-    requires given { Given table.now header words.now count }
-    requires part { Part (decode table.now) n }
-    ensures { result ≡ value (decode table.now) (environment words.now own count) n }
+pub fn value_at(table: &Table, words: &[u32], own: u32, count: u32, n: usize) -> u32
+    requires given { Given table.now.bytes.now words.now count }
+    requires part { Part (decode table.now.bytes.now) n }
+    ensures { result ≡ value (decode table.now.bytes.now) (environment words.now own count) n }
 {
-    let node = node_at(table, header, n);
+    let node = table.node_at(n);
     if node.kind < DOOR {
         return leaf(node, words, own, count);
     }
-    evaluate(table, header, words, own, count, n)
+    evaluate(table, words, own, count, n)
 }

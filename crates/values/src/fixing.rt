@@ -9,22 +9,21 @@ ghost use Rattle.table.specs.Header.{Passing};
 
 use crate::evaluation::{apply, constant};
 use rules::kinds::{CONSTANT, SUM};
-use table::Header;
-use table::words::node_at;
+use table::Table;
 
 // Calls itself on the parts, which lie below the node: the node number falls.
-pub fn fixing(table: &[u8], header: Header, n: usize) -> Option<u32>
-    requires { Passing well_formed table.now header × Part (decode table.now) n }
-    ensures { fixed_as result ≡ fixing (decode table.now) n }
+pub fn fixing(table: &Table, n: usize) -> Option<u32>
+    requires { Passing well_formed table.now.bytes.now × Part (decode table.now.bytes.now) n }
+    ensures { fixed_as result ≡ fixing (decode table.now.bytes.now) n }
 {
-    let node = node_at(table, header, n);
+    let node = table.node_at(n);
     if node.kind == CONSTANT {
         return Some(constant(node));
     }
     if node.kind < SUM {
         return None;
     }
-    let first = fixing(table, header, node.a as usize)?;
-    let second = fixing(table, header, node.b as usize)?;
+    let first = fixing(table, node.a as usize)?;
+    let second = fixing(table, node.b as usize)?;
     Some(apply(node.kind, first, second))
 }

@@ -5,14 +5,12 @@ ghost use Rattle.rules.specs.WellFormed.{node_fits, parts_at};
 ghost use Rattle.visit.specs.Exact.{noted_code, repeated_code, node_best, node_marks};
 ghost use Rattle.table.specs.Marks.{with_bit, with_bits};
 ghost use Rattle.table.specs.Roles.{is_part, field_parts};
-ghost use Rattle.table.specs.Sized.{Sized};
 ghost use Rattle.visit.specs.Fields.{plane_words};
 
 use crate::least::worse;
-use table::Header;
-use table::fields::{Role, is_part, kind_known, node_fits, roles_of, unnamed_zero};
+use table::Table;
+use table::fields::{Role, is_part, roles_of, unnamed_zero};
 use table::marks::{mark, marked};
-use table::words::node_at;
 
 // Marks node n, and answers the least refusal then.
 pub fn note(marks: &mut [u32], best: usize, n: usize) -> usize
@@ -37,31 +35,31 @@ fn note_field(marks: &mut [u32], best: usize, role: Role, value: usize) -> usize
     best
 }
 
-fn note_parts(table: &[u8], header: Header, marks: &mut [u32], best: usize, n: usize) -> usize
-    requires { Sized table.now header × (n < header.nodes) × (length marks.old ≡ plane_words) × (node_fits (decode table.now) n ≡ true) }
-    ensures { (result ≡ repeated_code marks.old best (parts_at (decode table.now) n))
-        × (marks.new ≡ with_bits marks.old (parts_at (decode table.now) n)) }
+fn note_parts(table: &Table, marks: &mut [u32], best: usize, n: usize) -> usize
+    requires { (n < table.now.header.nodes) × (length marks.old ≡ plane_words) × (node_fits (decode table.now.bytes.now) n ≡ true) }
+    ensures { (result ≡ repeated_code marks.old best (parts_at (decode table.now.bytes.now) n))
+        × (marks.new ≡ with_bits marks.old (parts_at (decode table.now.bytes.now) n)) }
 {
-    let node = node_at(table, header, n);
+    let node = table.node_at(n);
     let roles = roles_of(node.kind);
     let after_a = note_field(marks, best, roles.a, node.a as usize);
     let after_b = note_field(marks, after_a, roles.b, node.b as usize);
     note_field(marks, after_b, roles.c, node.c as usize)
 }
 
-pub fn exact(table: &[u8], header: Header, marks: &mut [u32], best: usize, n: usize) -> usize
-    requires { Sized table.now header × (n < header.nodes) × (length marks.old ≡ plane_words) }
-    ensures { (result ≡ node_best (decode table.now) n marks.old best)
-        × (marks.new ≡ node_marks (decode table.now) n marks.old) }
+pub fn exact(table: &Table, marks: &mut [u32], best: usize, n: usize) -> usize
+    requires { (n < table.now.header.nodes) × (length marks.old ≡ plane_words) }
+    ensures { (result ≡ node_best (decode table.now.bytes.now) n marks.old best)
+        × (marks.new ≡ node_marks (decode table.now.bytes.now) n marks.old) }
 {
-    if !kind_known(table, header, n) {
+    if !table.kind_known(n) {
         return worse(best, 7, n);
     }
-    if !unnamed_zero(node_at(table, header, n)) {
+    if !unnamed_zero(table.node_at(n)) {
         return worse(best, 8, n);
     }
-    if !node_fits(table, header, n) {
+    if !table.node_fits(n) {
         return worse(best, 9, n);
     }
-    note_parts(table, header, marks, best, n)
+    note_parts(table, marks, best, n)
 }

@@ -2,7 +2,6 @@
 // statement has an effect and the expression that guards it is not single.
 ghost use Rattle.std.specs.Prelude.{true, ◌||◌, ◌≡◌, ◌%◌, ◌<◌, length};
 ghost use Rattle.table.specs.Marks.{bit_at};
-ghost use Rattle.table.specs.Sized.{Sized};
 ghost use Rattle.visit.specs.declared.facts.Source.TheVariants.{Called};
 ghost use Rattle.visit.specs.Facts.{sourced, Settled, ruled};
 ghost use Rattle.visit.specs.Fields.{facts_plane, all_planes};
@@ -11,8 +10,8 @@ ghost use Rattle.rules.specs.Table.{decode};
 use crate::least::{NONE, worse};
 use crate::{LEAVES, PLANE, STUCK, Visit};
 use rules::Node;
+use table::Table;
 use table::marks::{mark, marked};
-use table::words::{effect_flag, flagged};
 
 // Where a node's fact comes from.
 #[derive(Clone, Copy)]
@@ -48,16 +47,16 @@ fn either(planes: &[u32], a: u32, b: u32) -> bool
     fact(planes, b)
 }
 
-fn fact_from(table: &[u8], planes: &[u32], visit: Visit, node: Node, source: Source) -> bool
-    requires { Sized table.now visit.header × (length planes.now ≡ all_planes) × (source ≡ Called → node.a < visit.header.procedures) }
-    ensures { result ≡ sourced (decode table.now) (facts_plane planes.now) node source }
+fn fact_from(table: &Table, planes: &[u32], node: Node, source: Source) -> bool
+    requires { (length planes.now ≡ all_planes) × (source ≡ Called → node.a < table.now.header.procedures) }
+    ensures { result ≡ sourced (decode table.now.bytes.now) (facts_plane planes.now) node source }
 {
     match source {
         Source::Never => false,
         Source::Always => true,
-        Source::Unflagged => !flagged(table, (node.a % 32) as usize),
-        Source::Flagged => flagged(table, (node.a % 32) as usize),
-        Source::Called => effect_flag(table, node.a as usize),
+        Source::Unflagged => !table.flagged((node.a % 32) as usize),
+        Source::Flagged => table.flagged((node.a % 32) as usize),
+        Source::Called => table.effect_flag(node.a as usize),
         Source::OfA => fact(planes, node.a),
         Source::OfB => fact(planes, node.b),
         Source::OfAOrB => either(planes, node.a, node.b),
@@ -68,7 +67,7 @@ fn fact_from(table: &[u8], planes: &[u32], visit: Visit, node: Node, source: Sou
 // The fact of a node whose fields passed, and the refusal by its rule: `question`, whose guard is the expression named.
 pub fn settled(
     used: bool,
-    table: &[u8],
+    table: &Table,
     planes: &mut [u32],
     visit: Visit,
     node: Node,
@@ -76,14 +75,14 @@ pub fn settled(
     question: usize,
     guard: u32,
 ) -> usize
-    requires sized { Sized table.now visit.header × (visit.node < visit.header.nodes) × (length planes.old ≡ all_planes) }
-    requires question_bound { (question < 17) × (used ≡ true → source ≡ Called → node.a < visit.header.procedures) }
-    ensures { Settled (decode table.now) visit node used source question guard planes.old planes.new result }
+    requires inside { (visit.node < table.now.header.nodes) × (length planes.old ≡ all_planes) }
+    requires question_bound { (question < 17) × (used ≡ true → source ≡ Called → node.a < table.now.header.procedures) }
+    ensures { Settled (decode table.now.bytes.now) visit node used source question guard planes.old planes.new result }
 {
     if !used {
         return STUCK;
     }
-    if !fact_from(table, planes, visit, node, source) {
+    if !fact_from(table, planes, node, source) {
         return NONE;
     }
     let local = fact(planes, guard);

@@ -2,13 +2,13 @@
 ghost use Rattle.std.specs.Prelude.{true, false, ◌≡◌, ◌<◌, length};
 ghost use Rattle.table.specs.Marks.{with_bits};
 ghost use Rattle.table.specs.Roles.{three, is_part, field_parts};
-ghost use Rattle.table.specs.Sized.{Sized};
 ghost use Rattle.visit.specs.Fields.{within, field_free, distinct, fields_free, Used, Fields, all_planes, plane_words};
 ghost use Rattle.rules.specs.Table.{decode};
 
 use crate::{PLANE, Visit};
 use rules::Node;
-use table::fields::{Role, field_fits, field_zero, is_part};
+use table::Table;
+use table::fields::{Role, field_zero, is_part};
 use table::marks::{mark, marked};
 
 fn within(visit: Visit, role: Role, value: usize) -> bool
@@ -20,14 +20,14 @@ fn within(visit: Visit, role: Role, value: usize) -> bool
     }
 }
 
-fn field_free(table: &[u8], marks: &[u32], visit: Visit, role: Role, value: u32) -> bool
-    requires { Sized table.now visit.header × (visit.node < visit.header.nodes) × (length marks.now ≡ plane_words) }
-    ensures { result ≡ field_free (decode table.now) marks.now visit role value }
+fn field_free(table: &Table, marks: &[u32], visit: Visit, role: Role, value: u32) -> bool
+    requires { (visit.node < table.now.header.nodes) × (length marks.now ≡ plane_words) }
+    ensures { result ≡ field_free (decode table.now.bytes.now) marks.now visit role value }
 {
     if !field_zero(role, value) {
         return false;
     }
-    if !field_fits(table, visit.header, visit.node, role, value as usize) {
+    if !table.field_fits(visit.node, role, value as usize) {
         return false;
     }
     if !within(visit, role, value as usize) {
@@ -52,7 +52,7 @@ fn distinct(r: Role, x: u32, s: Role, y: u32) -> bool
 }
 
 fn fields_free(
-    table: &[u8],
+    table: &Table,
     marks: &[u32],
     visit: Visit,
     node: Node,
@@ -60,8 +60,8 @@ fn fields_free(
     b: Role,
     c: Role,
 ) -> bool
-    requires { Sized table.now visit.header × (visit.node < visit.header.nodes) × (length marks.now ≡ plane_words) }
-    ensures { result ≡ fields_free (decode table.now) marks.now visit node (three a b c) }
+    requires { (visit.node < table.now.header.nodes) × (length marks.now ≡ plane_words) }
+    ensures { result ≡ fields_free (decode table.now.bytes.now) marks.now visit node (three a b c) }
 {
     if !field_free(table, marks, visit, a, node.a) {
         return false;
@@ -91,7 +91,7 @@ fn take(marks: &mut [u32], role: Role, value: usize)
 }
 
 fn take_fields(
-    table: &[u8],
+    table: &Table,
     marks: &mut [u32],
     visit: Visit,
     node: Node,
@@ -99,9 +99,9 @@ fn take_fields(
     b: Role,
     c: Role,
 ) -> bool
-    requires { Sized table.now visit.header × (visit.node < visit.header.nodes) × (length marks.old ≡ plane_words) }
-    ensures value { result ≡ fields_free (decode table.now) marks.old visit node (three a b c) }
-    ensures used { result ≡ true → Used (decode table.now) visit node (three a b c) marks.old marks.new }
+    requires { (visit.node < table.now.header.nodes) × (length marks.old ≡ plane_words) }
+    ensures value { result ≡ fields_free (decode table.now.bytes.now) marks.old visit node (three a b c) }
+    ensures used { result ≡ true → Used (decode table.now.bytes.now) visit node (three a b c) marks.old marks.new }
     ensures marks_unchanged { result ≡ false → marks.new ≡ marks.old }
 {
     if !fields_free(table, marks, visit, node, a, b, c) {
@@ -115,7 +115,7 @@ fn take_fields(
 
 // The plane of the nodes used is the first of the planes.
 pub fn fields(
-    table: &[u8],
+    table: &Table,
     planes: &mut [u32],
     visit: Visit,
     node: Node,
@@ -123,8 +123,8 @@ pub fn fields(
     b: Role,
     c: Role,
 ) -> bool
-    requires { Sized table.now visit.header × (visit.node < visit.header.nodes) × (length planes.old ≡ all_planes) }
-    ensures { Fields (decode table.now) visit node (three a b c) planes.old planes.new result }
+    requires { (visit.node < table.now.header.nodes) × (length planes.old ≡ all_planes) }
+    ensures { Fields (decode table.now.bytes.now) visit node (three a b c) planes.old planes.new result }
 {
     take_fields(table, &mut planes[0..PLANE], visit, node, a, b, c)
 }

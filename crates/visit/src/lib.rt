@@ -2,8 +2,6 @@
 // fact of a node at which nothing fails, for crate `quick`; what that is stuck at is put to `exact`.
 #![tactic(auto)]
 
-use table::Header;
-
 pub mod exact; // exact.rt: what exactly fails at a node
 pub mod facts; // facts.rt: what questions 13 to 17 go by, a bit a node
 pub mod fields; // fields.rt: the fields of a node at which nothing fails
@@ -13,7 +11,6 @@ pub mod noted; // noted.rt: the leaves, a bit a node
 // A visit of a node, which may call procedures below `limit`.
 #[derive(Clone, Copy)]
 pub struct Visit {
-    pub header: Header,
     pub node: usize,
     pub limit: usize,
 }

@@ -6,14 +6,14 @@ use Rattle.calls.proofs.first_high_call.Goals as goal
 pub loop-next-init : goal.loop-next-init
 loop-next-init c =
     let given = c.requires in
-    going_start _ _ given.0 _ (body-inside _ _ given.0 _ given.1) _ _ _ given.2 c.body.ensures given.0.sized.nodes-read
+    going_start _ given.0 _ (body-inside c.args.table.now.sized given.0 _ given.1) _ _ _ given.2 c.body.ensures c.args.table.now.sized.nodes-read
 
 pub loop-next-smaller : goal.loop-next-smaller
 loop-next-smaller c =
     let given = c.requires in
     let going = rw c.in-Some.is at c.loop-next.invariant in
     let step =
-    going_next _ _ given.0 _ (body-inside _ _ given.0 _ given.1) _ _ _ going _ _ _ c.lowest_call-lowest.ensures
+    going_next _ given.0 _ (body-inside c.args.table.now.sized given.0 _ given.1) _ _ _ going _ _ _ c.lowest_call-lowest.ensures
     c.descend-next.ensures in
     rw c.in-Some.is (omega (arith, step.1))
 
@@ -21,7 +21,7 @@ pub loop-next-preserved : goal.loop-next-preserved
 loop-next-preserved c =
     let given = c.requires in
     let going = rw c.in-Some.is at c.loop-next.invariant in
-    (going_next _ _ given.0 _ (body-inside _ _ given.0 _ given.1) _ _ _ going _ _ _ c.lowest_call-lowest.ensures
+    (going_next _ given.0 _ (body-inside c.args.table.now.sized given.0 _ given.1) _ _ _ going _ _ _ c.lowest_call-lowest.ensures
     c.descend-next.ensures).0
 
 pub returns-clause-value : goal.returns-clause-value

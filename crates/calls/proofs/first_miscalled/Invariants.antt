@@ -7,4 +7,4 @@ use mathlib.Core.Path.{◌≡◌}
 use Rattle.calls.proofs.first_miscalled.Given as goal
 
 abbrev pub invariant-loop-p : goal.invariant-loop-p
-invariant-loop-p l = (l.marks ≡ replicate 8 0) × (l.lowest ≡ first_failing (calls_of (decode l.table) l.p) (nodes (decode l.table)))
+invariant-loop-p l = (l.marks ≡ replicate 8 0) × (l.lowest ≡ first_failing (calls_of (decode l.table.bytes.now) l.p) (nodes (decode l.table.bytes.now)))

@@ -12,7 +12,7 @@ go_on-requires c =
     let given = c.requires in
     let waited = c.wait.ensures in (
       ap length waited ∙ length-with_bits _ _ ∙ given.4,
-      omega (arith, given.1, given.0.sized.nodes-read, given.0.sized.nodes-high),
+      omega (arith, given.1, c.args.table.now.sized.nodes-read, c.args.table.now.sized.nodes-high),
       given.3,
       rw waited (waited-clear _ _ _ _ (omega (arith, given.2)) given.5),
     )

@@ -1,33 +1,9 @@
 -- `pass_node` meets its contract: each kind by its law.
 use mathlib.Core.Path.{refl, sym, ◌∙◌}
 use native.Mathlib.Omega.{arith}
-use Rattle.table.proofs.PassingLaws.{built-formed, readable}
+use Rattle.table.proofs.PassingLaws.{built-formed}
 use Rattle.leaves.proofs.PassLaws.{pass_other, pass_leave, pass_loop, pass_sequence, pass_branch}
 use Rattle.leaves.proofs.pass_node.Goals as goal
-
-pub kind_at-requires : goal.kind_at-requires
-kind_at-requires c = readable c.requires.0 c.requires.1
-
-pub node_at-node-requires : goal.node_at-node-requires
-node_at-node-requires c = readable c.requires.0 c.requires.1
-
-pub join-requires : goal.join-requires
-join-requires c = let given = c.requires in (omega (arith, given.1, (built-formed given.0).nodes-high), given.2)
-
-pub node_at-node-requires-in-19 : goal.node_at-node-requires-in-19
-node_at-node-requires-in-19 c = readable c.requires.0 c.requires.1
-
-pub join-requires-in-19 : goal.join-requires-in-19
-join-requires-in-19 c = let given = c.requires in (omega (arith, given.1, (built-formed given.0).nodes-high), given.2)
-
-pub node_at-node-requires-in-20 : goal.node_at-node-requires-in-20
-node_at-node-requires-in-20 c = readable c.requires.0 c.requires.1
-
-pub left_by_leave-requires : goal.left_by_leave-requires
-left_by_leave-requires c = let given = c.requires in (omega (arith, given.1, (built-formed given.0).nodes-high), given.2)
-
-pub note_leave-requires : goal.note_leave-requires
-note_leave-requires c = let given = c.requires in (omega (arith, given.1, (built-formed given.0).nodes-high), given.2)
 
 pub returns-in-18 : goal.returns-in-18
 returns-in-18 c =

@@ -10,4 +10,4 @@ abbrev pub stays : List ℕ → ℕ → Bool
 stays table n = not (is_leave (statement_at (decode table) n))
 
 abbrev pub invariant-loop-n : goal.invariant-loop-n
-invariant-loop-n l = Passed (stays l.table) l.n
+invariant-loop-n l = Passed (stays l.table.bytes.now) l.n

@@ -4,4 +4,4 @@ use Rattle.rules.specs.Table.{decode}
 use Rattle.loops.proofs.nearest_loop.Given as goal
 
 abbrev pub invariant-loop-m : goal.invariant-loop-m
-invariant-loop-m l = Climbed (decode l.table) l.n l.inner l.m
+invariant-loop-m l = Climbed (decode l.table.bytes.now) l.n l.inner l.m

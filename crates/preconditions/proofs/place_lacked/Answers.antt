@@ -1,7 +1,7 @@
 -- `preconditions::place_lacked` meets its contract.
 use Rattle.preconditions.proofs.FittingLaws.{run-stacked, run-statement, run-topped}
 use Rattle.process.proofs.StatementLaws.{statement-below}
-use Rattle.table.proofs.PassingLaws.{readable, read-formed, read-built}
+use Rattle.table.proofs.PassingLaws.{read-formed}
 use Rattle.rules.proofs.ProcessLaws.{process_length}
 use Rattle.rules.specs.Table.{decode, node_at}
 use Rattle.rules.specs.Step.{place_lacked}
@@ -48,8 +48,8 @@ node_at-node-requires c =
     let given = c.requires in
     let read = given.0.read in
     let runs = sym status-at.ensures ∙ c.if-status_at-ne-RUNNING.false in
-    rw (c.top.ensures ∙ ap top c.process_at-words.ensures)
-    (readable (read-built read) (statement-below _ (read-formed read) _ (run-statement given.0 given.1 given.2 runs)))
+    rw (c.top.ensures ∙ ap top c.process_at-words.ensures, c.args.table.now.sized.nodes-read)
+    (statement-below _ (read-formed read) _ (run-statement given.0 given.1 given.2 runs))
 
 pub needs_place-requires : goal.needs_place-requires
 needs_place-requires c =
@@ -59,7 +59,7 @@ needs_place-requires c =
     let runs = sym status-at.ensures ∙ c.if-status_at-ne-RUNNING.false in
     let here =
     c.node_at-node.ensures
-    ∙ ap (node_at (decode c.args.table.now))
+    ∙ ap (node_at (decode c.args.table.now.bytes.now))
     (c.top.ensures ∙ ap top process_at_lem.ensures) in
     rw process_at_lem.ensures (run-topped given.0 given.1 given.2 runs here)
 

@@ -1,6 +1,5 @@
 -- `scheduler::first_left` meets its contract, event by event.
 use Rattle.scheduler.specs.Serving.{unfit_in, MovedOn, LeftBy, Turned}
-use Rattle.table.specs.declared.Header.{Header}
 use Rattle.process.specs.Given.{Stacked}
 use Rattle.rules.specs.WellFormed.{is_statement, well_formed}
 use borrow.Author.Tests.{not-true, not-false}
@@ -21,9 +20,9 @@ use Rattle.rules.specs.Table.{Program, decode}
 use Rattle.table.specs.Header.{Passing}
 
 -- what is left, by the event that the code has told
-told : {table : List ℕ} {header : Header} {state roll : List ℕ} {count p : ℕ} {e f : Event}
-    → Turned table header state roll count p e → e ≡ f → LeftBy f (decode table) state roll count p
-told {table} {header} {state} {roll} {count} {p} turned same = subst (λ x. LeftBy x (decode table) state roll count p) same turned.left
+told : {table : List ℕ} {state roll : List ℕ} {count p : ℕ} {e f : Event}
+    → Turned table state roll count p e → e ≡ f → LeftBy f (decode table) state roll count p
+told {table} {state} {roll} {count} {p} turned same = subst (λ x. LeftBy x (decode table) state roll count p) same turned.left
 
 module _ {program : Program} {state roll : List ℕ} {count p : ℕ} (on : MovedOn program state roll count p) where
   fit-again : leave_fits program (process_at state p) ≡ true → count ≡ unfit_in program state roll count
@@ -37,10 +36,10 @@ module _ {program : Program} {state roll : List ℕ} {count p : ℕ} (on : Moved
       (λ q m. on.others q (omega arith) (λ same. omega arith)) (on.own ∙ e))
 
 abbrev start : tie.In-Moved → tie.Start
-start c = c.before.before.before.before
+start c = c.before.before.before
 
 moved : (c : tie.In-Moved)
-    → MovedOn (decode c.args.table.now) c.args.state.now c.args.roll.now c.args.count
+    → MovedOn (decode c.args.table.now.bytes.now) c.args.state.now c.args.roll.now c.args.count
     c.args.p
 moved c = told c.requires c.in-Moved.is
 
@@ -52,9 +51,9 @@ process-at-requires c κs = search rules
 
 -- what both tests of the leave are given
 on_top : (c : tie.After-process_at-words)
-    → Passing well_formed c.args.table.now c.args.header
+    → Passing well_formed c.args.table.now.bytes.now
     × Stacked c.process_at-words.result.now
-    × (is_statement (decode c.args.table.now) (top c.process_at-words.result.now) ≡ true)
+    × (is_statement (decode c.args.table.now.bytes.now) (top c.process_at-words.result.now) ≡ true)
 on_top c =
     let on = moved c.before in
     (c.requires.read, rw c.process_at-words.ensures on.stacked, rw c.process_at-words.ensures on.statement)

@@ -6,5 +6,6 @@ use Rattle.scheduler.proofs.serve_asked.Given as goal
 
 abbrev pub invariant-loop-made : goal.invariant-loop-made
 invariant-loop-made l =
-    Between l.table l.header l.count l.turns (serving l.table l.turns 0 l.given (team_of l.initial.state l.initial.roll)) l.state l.roll l.made
+    Between l.table.bytes.now l.count l.turns
+    (serving l.table.bytes.now l.turns 0 l.given (team_of l.initial.state l.initial.roll)) l.state l.roll l.made
     l.last l.unfit

@@ -11,7 +11,7 @@ use Rattle.sweep.proofs.first_call.Goals as goal
 pub returns-then-ordered : goal.returns-then-ordered
 returns-then-ordered c =
     let given = c.requires in
-    record { first = none_miscalled given.0 (given.2 c.if-ordered.true); facts = refl; leaves = refl; size = given.1 }
+    record { first = c.args.table.now.sized.nodes-read ∙ none_miscalled given.0 (given.2 c.if-ordered.true); facts = refl; leaves = refl; size = given.1 }
 
 pub first_miscalled-requires : goal.first_miscalled-requires
 first_miscalled-requires c =

@@ -3,7 +3,6 @@ use mathlib.Core.Bool.{Bool, true}
 use mathlib.Core.List.{List}
 use mathlib.Core.Path.{◌≡◌, sym, ◌∙◌, ap}
 use Prim.Native.Nat.{ℕ}
-use native.Mathlib.Omega.{arith}
 use lib.ListN.{length}
 use Rattle.std.specs.Prelude.{Err}
 use Rattle.rules.specs.declared.Refusal.{Refusal}
@@ -11,7 +10,7 @@ use Rattle.rules.specs.Answers.{Verdict, Accepted, ◌then◌}
 use Rattle.rules.specs.Acceptance.{judged_by, judged}
 use Rattle.rules.specs.Table.{decode, statement_at}
 use Rattle.rules.specs.WellFormed.{well_formed}
-use Rattle.rules.proofs.Formed.{exact}
+use Rattle.table.proofs.PassingLaws.{read-shaped}
 use Rattle.switches.specs.Aside.{aside_plane}
 use Rattle.switches.proofs.FourLaws.{work-length, aside_put_work, length_put_work}
 use Rattle.switches.proofs.NumberLaws.{by_rules, refused-judged, refused-formed, whole-accepted}
@@ -24,10 +23,10 @@ by_13_to_17 : (table : List ℕ) (r : Refusal) {v : Verdict} {b : Bool} → v �
     → (well_formed table ≡ Accepted) × (Err r ≡ judged_by (decode table) (statement_at (decode table)))
 by_13_to_17 table r failed whole test true_ = refused-judged table r (sym failed ∙ whole) (sym test ∙ true_)
 
-pub header-requires : goal.header-requires
-header-requires c =
+pub of-requires : goal.of-requires
+of-requires c =
     let refused = by_13_to_17 _ _ c.in-Err.is c.accepted-whole.ensures c.by_rules.ensures c.if-by_rules.true in
-    omega (arith, exact c.args.table.now refused.0)
+    read-shaped (record { passed = refused.0 })
 
 pub judge_again-requires : goal.judge_again-requires
 judge_again-requires c =
@@ -35,8 +34,9 @@ judge_again-requires c =
     let planes = c.args.planes.now in
     let size = ap length c.requires in
     let words = c.accepted-whole.new.planes in
-    let many = c.accepted-whole.auto.planes ∙ work-length planes size in (
-      record { passed = refused.0; headed = c.header.ensures },
+    let many = c.accepted-whole.auto.planes ∙ work-length planes size in
+    rw c.of.ensures (
+      record { passed = refused.0 },
       length_put_work planes size words many,
       aside_put_work planes size words many ∙ ap aside_plane c.requires,
       refused.1,
@@ -45,7 +45,7 @@ judge_again-requires c =
 pub returns-in-Err : goal.returns-in-Err
 returns-in-Err c =
     let refused = by_13_to_17 _ _ c.in-Err.is c.accepted-whole.ensures c.by_rules.ensures c.if-by_rules.true in
-    c.judge_again.ensures ∙ sym (ap (λ v. v then judged (decode c.args.table.now)) refused.0)
+    (rw c.of.ensures at c.judge_again.ensures) ∙ sym (ap (λ v. v then judged (decode c.args.table.now)) refused.0)
 
 pub returns-in_default : goal.returns-in_default
 returns-in_default c =

@@ -26,8 +26,8 @@ returns-then-none_marked c =
     ∙ aside_put_aside planes size words aside.size in
     let none = rw lent at (sym c.none_marked.ensures ∙ c.if-none_marked.true) in
     c.requires.3
-    ∙ ap (judged_by (decode c.args.table.now))
-    (sym (none-aside (decode c.args.table.now) formed words aside (λ k l. none-set words none k (omega (arith, aside.size)))))
+    ∙ ap (judged_by (decode c.args.table.now.bytes.now))
+    (sym (none-aside (decode c.args.table.now.bytes.now) formed words aside (λ k l. none-set words none k (omega (arith, aside.size)))))
 
 pub judge_counted-requires : goal.judge_counted-requires
 judge_counted-requires c =

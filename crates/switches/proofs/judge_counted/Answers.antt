@@ -30,7 +30,7 @@ visit_again-guards-requires c =
 
 pub pass_again-rule-requires : goal.pass_again-rule-requires
 pass_again-rule-requires c =
-    let table = c.args.table.now in
+    let table = c.args.table.now.bytes.now in
     let (beside, known) = c.visit_again-guards.ensures in
     let planes = c.visit_again-guards.new.planes in
     let clear = c.clear_leaves.ensures in
@@ -53,7 +53,7 @@ unflagged-requires c =
 pub returns : goal.returns
 returns c =
     let read = c.requires.0 in
-    let table = c.args.table.now in
+    let table = c.args.table.now.bytes.now in
     let (beside, known) = c.visit_again-guards.ensures in
     let planes = c.visit_again-guards.new.planes in
     let clear = c.clear_leaves.ensures in

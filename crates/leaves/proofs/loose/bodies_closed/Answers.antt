@@ -6,7 +6,6 @@ use Rattle.std.proofs.lemmas.List.FromFn.{length-range_with_len, get_or-range_wi
 use Rattle.rules.specs.Choice.{all_below}
 use Rattle.rules.proofs.ChoiceLaws.{all_true, all-false}
 use Rattle.rules.specs.Table.{decode, body}
-use Rattle.table.proofs.PassingLaws.{header-procedures}
 use Rattle.table.specs.Marks.{bit_at}
 use Rattle.visit.specs.Fields.{leaves_plane}
 use Rattle.leaves.proofs.loose.bodies_closed.Goals as goal
@@ -26,11 +25,11 @@ told test n false h =
 
 pub returns : goal.returns
 returns c =
-    let table = c.args.table.now in
+    let table = c.args.table.now.bytes.now in
     let planes = c.args.planes.now in
-    let n = c.args.header.procedures in
+    let n = c.args.table.now.header.procedures in
     let test = λ (p : ℕ). not (bit_at (leaves_plane planes) (body (decode table) p % 256)) in
-    rw (← header-procedures c.requires.0)
+    rw (← c.args.table.now.sized.procedures-read)
     (told test n _
     (cases_from_all _ _ _ (λ p. test p ≡ true) (λ p. test p ≡ false) c.all.ensures.ran (YieldsList-from_range 0 n n refl (omega arith))
     (λ p r k. search rules) (λ p r k. search rules)))

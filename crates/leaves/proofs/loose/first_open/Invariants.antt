@@ -5,4 +5,4 @@ use Rattle.rules.proofs.ChoiceLaws.{Passed}
 use Rattle.leaves.proofs.loose.first_open.Given as goal
 
 abbrev pub invariant-loop-n : goal.invariant-loop-n
-invariant-loop-n l = Passed (leave_enclosed (decode l.table)) l.n
+invariant-loop-n l = Passed (leave_enclosed (decode l.table.bytes.now)) l.n

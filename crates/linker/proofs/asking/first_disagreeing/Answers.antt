@@ -3,9 +3,9 @@ use mathlib.Core.Bool.{true, false}
 use mathlib.Core.Path.{◌≡◌, sym}
 use native.Mathlib.Omega.{arith}
 use borrow.Author.Tests.{not-true, not-false}
+use Rattle.linker.specs.Given.{library_of, program_of}
 use Rattle.linker.specs.Linking.{flags_agree}
 use Rattle.rules.proofs.ChoiceLaws.{passed-more, first-none, first-at}
-use Rattle.rules.specs.Table.{decode}
 use Rattle.linker.proofs.asking.first_disagreeing.Goals as goal
 
 pub returns-then-flagged : goal.returns-then-flagged
@@ -13,7 +13,7 @@ unfolding flags_agree
 returns-then-flagged c =
     let args = c.args in
     let loop = c.loop-v in
-    let agree = flags_agree (decode args.library.now) (decode args.program.now) in
+    let agree = flags_agree (library_of args.both.now) (program_of args.both.now) in
     let differ : agree loop.v ≡ false =
     rw (← c.flagged.ensures, ← c.flagged-in-loop-v.ensures) (not-true _ c.if-flagged.true) in
     sym (first-at agree _ loop.v (omega arith) loop.invariant differ)
@@ -23,7 +23,7 @@ unfolding flags_agree
 loop-v-preserved c =
     let args = c.args in
     let loop = c.loop-v in
-    let agree = flags_agree (decode args.library.now) (decode args.program.now) in
+    let agree = flags_agree (library_of args.both.now) (program_of args.both.now) in
     let same : agree loop.v ≡ true =
     rw (← c.flagged.ensures, ← c.flagged-in-loop-v.ensures) (not-false _ c.if-flagged.false) in
     passed-more agree loop.v loop.invariant same

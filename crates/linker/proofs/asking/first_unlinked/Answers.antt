@@ -2,26 +2,22 @@
 use mathlib.Core.Path.{◌≡◌, sym, ◌∙◌, ap}
 use Prim.Native.Nat.{◌+◌}
 use native.Mathlib.Omega.{arith}
+use Rattle.linker.specs.Given.{library_of, program_of}
 use Rattle.linker.specs.Linking.{procedure_links}
 use Rattle.rules.proofs.ChoiceLaws.{first-none, first-at}
-use Rattle.rules.specs.Table.{decode, procedures}
-use Rattle.table.proofs.PassingLaws.{header-procedures, read-sized}
+use Rattle.rules.specs.Table.{procedures}
 use Rattle.linker.proofs.asking.first_unlinked.Goals as goal
-
-pub overflow_add-count : goal.overflow_add-count
-overflow_add-count c =
-    let library = read-sized c.requires.of_library in
-    omega (arith, library.procedures-read, library.procedures-high)
 
 pub returns-then-not-procedure_links : goal.returns-then-not-procedure_links
 returns-then-not-procedure_links c =
+    let both = c.args.both.now in
     let loop = c.loop-p in
-    sym (first-at (procedure_links (decode c.args.library.now) (decode c.args.program.now)) _ loop.p
-    (omega (arith, header-procedures c.requires.of_library)) loop.invariant
+    sym (first-at (procedure_links (library_of both) (program_of both)) _ loop.p
+    (omega (arith, both.library.sized.procedures-read)) loop.invariant
     (sym c.procedure_links.ensures ∙ c.if-not-procedure_links.true))
 
 pub returns : goal.returns
 returns c =
-    let read = header-procedures c.requires.of_library in
-    let all : c.loop-p.p ≡ 1 + procedures (decode c.args.library.now) = omega (arith, read) in
+    let read = c.args.both.now.library.sized.procedures-read in
+    let all : c.loop-p.p ≡ 1 + procedures (library_of c.args.both.now) = omega (arith, read) in
     ap (λ n. 1 + n) read ∙ sym (first-none _ _ (rw all at c.loop-p.invariant))

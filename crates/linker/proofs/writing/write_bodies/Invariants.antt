@@ -9,4 +9,4 @@ use Rattle.linker.proofs.writing.write_bodies.Given as goal
 
 abbrev pub invariant-loop-k : goal.invariant-loop-k
 invariant-loop-k l =
-    l.out ≡ sets l.initial.out (4 * l.first) (joined (λ i. word_bytes (moved_procedure l.both l.program i)) l.k)
+    l.out ≡ sets l.initial.out (4 * l.first) (joined (λ i. word_bytes (moved_procedure l.both i)) l.k)

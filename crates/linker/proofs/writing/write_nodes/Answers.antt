@@ -2,10 +2,13 @@
 use mathlib.Core.Path.{refl, sym, ◌∙◌, ap, subst}
 use native.Mathlib.Omega.{arith}
 use Rattle.linker.specs.Given.{moved_word, Movable, part_units, node_behind, moved_node}
-use Rattle.linker.proofs.WordLaws.{units, read-packed, read-kind, read-units}
+use Rattle.linker.proofs.WordLaws.{units, read-packed, read-kind, read-units, nodes-there, node_movable}
 use Rattle.rules.specs.WellFormed.{joined}
 use Rattle.writer.proofs.WordLaws.{word_more}
 use Rattle.linker.proofs.writing.write_nodes.Goals as goal
+
+pub overflow_sub-count : goal.overflow_sub-count
+overflow_sub-count c = nodes-there c.args.both.now c.requires.0
 
 pub loop-k-init : goal.loop-k-init
 unfolding joined
@@ -19,22 +22,21 @@ unfolding units
 moved-requires c =
     let is = c.packed_at-node.ensures in
     let kind = c.kind_of.ensures in
-    let both = c.args.both in
-    let m = node_behind both c.args.program.now c.loop-k.k in
-    let packs = subst (Movable both (part_units m)) (sym (read-packed _ _ _ is kind)) (c.requires.by_index c.loop-k.k (omega arith)) in (
-      c.requires.fitting.0,
-      subst (λ one. Movable both one c.packed_at-node.result) (sym (read-units _ _ _ is kind)) packs,
-    )
+    let both = c.args.both.now in
+    let m = node_behind both c.loop-k.k in
+    let movable = node_movable both c.requires.0 c.loop-k.k (omega arith) in
+    let packs = subst (Movable both (part_units m)) (sym (read-packed _ _ _ is kind)) movable in
+    subst (λ one. Movable both one c.packed_at-node.result) (sym (read-units _ _ _ is kind)) packs
 
 pub loop-k-preserved : goal.loop-k-preserved
 unfolding units
 loop-k-preserved c =
     let loop = c.loop-k in
-    let args = c.args in
+    let both = c.args.both.now in
     let put = c.put_word.ensures in
     let is = c.packed_at-node.ensures in
     let kind = c.kind_of.ensures in
-    word_more (λ i. moved_node args.both (node_behind args.both args.program.now i)) args.out.now _ loop.k _ _ _ loop.invariant put
+    word_more (λ i. moved_node both (node_behind both i)) c.args.out.now _ loop.k _ _ _ loop.invariant put
     (c.moved.ensures
-    ∙ (ap (λ one. moved_word args.both one c.packed_at-node.result) (read-units _ _ _ is kind)
-    ∙ ap (moved_word args.both (part_units (node_behind args.both args.program.now loop.k))) (read-packed _ _ _ is kind)))
+    ∙ (ap (λ one. moved_word both one c.packed_at-node.result) (read-units _ _ _ is kind)
+    ∙ ap (moved_word both (part_units (node_behind both loop.k))) (read-packed _ _ _ is kind)))

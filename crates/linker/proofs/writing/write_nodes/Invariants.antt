@@ -9,4 +9,4 @@ use Rattle.linker.proofs.writing.write_nodes.Given as goal
 
 abbrev pub invariant-loop-k : goal.invariant-loop-k
 invariant-loop-k l =
-    l.out ≡ sets l.initial.out (4 * l.first) (joined (λ i. word_bytes (moved_node l.both (node_behind l.both l.program i))) l.k)
+    l.out ≡ sets l.initial.out (4 * l.first) (joined (λ i. word_bytes (moved_node l.both (node_behind l.both i))) l.k)

@@ -2,10 +2,10 @@
 use Rattle.machine.proofs.StartLaws.{laid-all, given-within}
 use Rattle.process.proofs.LentLaws.{lent, back}
 use Rattle.machine.specs.Layout.{Startable}
-use Rattle.table.specs.Header.{header_of}
+use Rattle.table.proofs.PassingLaws.{read-shaped}
 use Rattle.rules.proofs.VerdictLaws.{laid, start_words-length}
 use Rattle.rules.proofs.ProcessLaws.{KeepsBelow, each_below-length, process_length}
-use Rattle.rules.proofs.Formed.{formed, exact}
+use Rattle.rules.proofs.Formed.{formed}
 use Rattle.rules.specs.Table
 use Rattle.rules.specs.Table.{decode, procedures, main_body, body}
 use Rattle.rules.specs.Start.{start_size, start_process, start_words, start_state}
@@ -40,44 +40,31 @@ given_is : (table words : List ℕ) (p : ℕ) {v : ℕ} {given : List ℕ} → v
 unfolding start_words start_size
 given_is table words p e g = rw (← e) g
 
-pub header-head-requires : goal.header-head-requires
-header-head-requires c =
-    let sized = exact _ c.requires.well-formed in
-    omega (arith, sized)
-
-pub overflow_sub-head : goal.overflow_sub-head
-unfolding header_of
-overflow_sub-head c =
-    let shape = formed _ c.requires.well-formed in
-    omega (arith, shape.procedures-low, ap (λ h. h.procedures) c.header-head.ensures)
-
-pub body-entry-requires : goal.body-entry-requires
-unfolding header_of
-body-entry-requires c =
-    let shape = formed _ c.requires.well-formed in
-    omega (arith, shape.procedures-low, exact _ c.requires.well-formed, ap (λ h. h.procedures) c.header-head.ensures)
+pub of-table-requires : goal.of-table-requires
+of-table-requires c = read-shaped (record { passed = c.requires.well-formed })
 
 pub overflow_cast-entry : goal.overflow_cast-entry
-unfolding header_of
 overflow_cast-entry c =
-    let header = c.header-head in
     let table = c.args.table.now in
     let shape = formed table c.requires.well-formed in
-    let same = ap (λ h. h.procedures) header.ensures in
+    let sized = c.of-table.result.sized in
+    let same : procedures (decode c.of-table.result.bytes.now) ≡ procedures (decode table) = rw c.of-table.ensures in
+    let entry = rw c.of-table.ensures at c.body-entry.ensures in
     omega (
       arith,
-      c.body-entry.ensures,
-      shape.body_below (header.result.procedures - 1) (omega (arith, shape.procedures-low)),
+      entry,
+      shape.body_below (c.of-table.result.header.procedures - 1)
+          (omega (arith, same, sized.procedures-read, shape.procedures-low)),
       shape.nodes-high,
     )
 
 pub loop-p-init : goal.loop-p-init
-unfolding header_of each_process main_body
+unfolding each_process main_body
 loop-p-init c =
-    let header = c.header-head in
+    let sized = rw c.of-table.ensures at c.of-table.result.sized in
     record {
-      counted = ap (λ h. h.variables) header.ensures;
-      entered = c.body-entry.ensures ∙ ap (λ h. body (decode c.args.table.now) (h.procedures - 1)) header.ensures;
+      counted = sized.variables-read;
+      entered = rw (c.of-table.ensures, sized.procedures-read) at c.body-entry.ensures;
       reached = refl;
     }
 

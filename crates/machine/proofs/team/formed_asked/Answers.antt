@@ -1,11 +1,10 @@
 -- `machine::team::formed_asked` meets its contract.
 use Rattle.machine.proofs.VerdictSteps.{unsized, left_over, team_of_lem}
-use Rattle.rules.proofs.Formed.{exact}
 use Rattle.rules.specs.Step.{processes_in}
 use Rattle.std.proofs.lemmas.Result.{err_from_is_err_and}
-use Rattle.table.specs.Header.{header_of}
+use Rattle.table.proofs.PassingLaws.{read-shaped}
 use native.Mathlib.Omega.{arith}
-use mathlib.Core.Path.{refl, sym, ◌∙◌}
+use mathlib.Core.Path.{sym, ◌∙◌}
 use Rattle.machine.proofs.team.formed_asked.Goals as goal
 
 pub returns-in_err-sizes_asked : goal.returns-in_err-sizes_asked
@@ -18,20 +17,21 @@ unfolding processes_in
 overflow_cast-count c =
     let args = c.args in
     let team = team_of_lem args.table.now args.state.now args.roll.now args.process c.requires
-    (sym c.sizes_asked.ensures ∙ c.in_ok-sizes_asked.was) {header = header_of args.table.now}
-    (record { passed = c.requires; headed = refl }) in
+    (sym c.sizes_asked.ensures ∙ c.in_ok-sizes_asked.was) (record { passed = c.requires }) in
     omega (arith, team.few)
 
-pub header-requires : goal.header-requires
-header-requires c = omega (arith, exact _ c.requires)
+pub of-requires : goal.of-requires
+of-requires c = read-shaped (record { passed = c.requires })
 
 pub team_asked-requires : goal.team_asked-requires
 unfolding processes_in
 team_asked-requires c =
-    team_of_lem _ _ _ c.args.process c.requires (sym c.sizes_asked.ensures ∙ c.in_ok-sizes_asked.was)
-    (record { passed = c.requires; headed = c.header.ensures })
+    rw c.of.ensures
+    (team_of_lem _ _ _ c.args.process c.requires (sym c.sizes_asked.ensures ∙ c.in_ok-sizes_asked.was)
+    (record { passed = c.requires }))
 
 pub returns : goal.returns
 unfolding processes_in
 returns c =
-    c.team_asked.ensures ∙ sym (left_over _ _ _ _ c.requires (sym c.sizes_asked.ensures ∙ c.in_ok-sizes_asked.was))
+    (rw c.of.ensures at c.team_asked.ensures)
+    ∙ sym (left_over _ _ _ _ c.requires (sym c.sizes_asked.ensures ∙ c.in_ok-sizes_asked.was))

@@ -11,7 +11,7 @@ use Rattle.machine.proofs.turn.meet.Tie as tie
 
 -- the stages before the question whether all wait at one node
 abbrev start : tie.After-all_at_one_node → tie.Start
-start c = c.before.before.before.before.before.before.before.before.before.before
+start c = c.before.before.before.before.before.before.before.before.before
 
 abbrev arrival : tie.After-all_at_one_node → tie.After-arrive_in
 arrival c = c.before.before.before

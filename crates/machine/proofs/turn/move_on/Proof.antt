@@ -16,14 +16,15 @@ use Rattle.machine.proofs.turn.move_on.Statement.{statement}
 use Rattle.machine.proofs.turn.move_on.Tie as tie
 
 abbrev start : tie.After-advance_in → tie.Start
-start c = c.before.before.before.before.before
+start c = c.before.before.before.before
 
 -- the process's words after its statement
 abbrev moved : tie.After-advance_in → List ℕ
 moved c =
     let args = c.args in
     let here = process_at args.state.now args.p in
-    advanced (decode args.table.now) (environment here args.p args.count) here (statement_at (decode args.table.now) (top here))
+    let program = decode args.table.now.bytes.now in
+    advanced program (environment here args.p args.count) here (statement_at program (top here))
 
 -- the depth read off the state is theirs
 left : (c : tie.After-advance_in)
@@ -32,7 +33,7 @@ left c =
     let args = c.args in
     let given = c.requires in
     let sized : length (moved c) ≡ process_words =
-    advanced-length (decode args.table.now) _ (process_at args.state.now args.p) _
+    advanced-length (decode args.table.now.bytes.now) _ (process_at args.state.now args.p) _
     ∙ process_length args.state.now args.count args.p given.0.stated given.1 in
     ap (λ l. get_or l (process_words * args.p + depth_at) 0) c.advance_in.ensures
     ∙ depth_with args.state.now (moved c) args.count args.p given.0.stated sized given.1

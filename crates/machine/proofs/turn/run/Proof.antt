@@ -2,7 +2,7 @@
 use Rattle.machine.proofs.OutcomeLaws.{run_alone, run-meets}
 use Rattle.machine.proofs.TeamLaws.{ready-stacked, ready-statement, ready-topped, ready-turn}
 use Rattle.process.proofs.StatementLaws.{statement-below}
-use Rattle.table.proofs.PassingLaws.{readable, read-formed, read-built}
+use Rattle.table.proofs.PassingLaws.{read-formed}
 use Rattle.process.specs.Given.{is_collective}
 use Rattle.rules.specs.Table.{decode, node_at}
 use Rattle.rules.specs.Process.{process_at, top}
@@ -14,15 +14,15 @@ use Rattle.machine.proofs.turn.run.Statement.{statement}
 use Rattle.machine.proofs.turn.run.Tie as tie
 
 abbrev start : tie.After-node_at-node → tie.Start
-start c = c.before.before.before.before.before.before
+start c = c.before.before.before.before.before
 
 -- the node read is the one on top of the process's stack
 on_top : (c : tie.After-node_at-node)
     → c.node_at-node.result
-    ≡ node_at (decode c.args.table.now) (top (process_at c.args.state.now c.args.p))
+    ≡ node_at (decode c.args.table.now.bytes.now) (top (process_at c.args.state.now c.args.p))
 on_top c =
     c.node_at-node.ensures
-    ∙ ap (node_at (decode c.args.table.now)) (c.top-n.ensures ∙ ap top c.process_at.ensures)
+    ∙ ap (node_at (decode c.args.table.now.bytes.now)) (c.top-n.ensures ∙ ap top c.process_at.ensures)
 
 process-at-requires : tie.Need-process_at-requires
 process-at-requires c κs = search rules
@@ -40,7 +40,7 @@ node-at-requires c κs =
     let given = c.requires in
     let read = given.0.team.read in
     let at = c.top-n.ensures ∙ ap top c.process_at.ensures in
-    rw at (readable (read-built read) (statement-below _ (read-formed read) _ (ready-statement given.0 given.1)))
+    rw (at, c.args.table.now.sized.nodes-read) ((statement-below _ (read-formed read) _ (ready-statement given.0 given.1)))
 
 is-collective-requires : tie.Need-is_collective-requires
 is-collective-requires c κs = search rules

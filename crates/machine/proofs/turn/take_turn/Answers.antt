@@ -8,7 +8,7 @@ pub returns-then-status-eq-RUNNING : goal.returns-then-status-eq-RUNNING
 returns-then-status-eq-RUNNING c =
     let status-at = c.status_at-status in
     let args = c.args in
-    rw (taken-run (decode args.table.now) args.state.now args.roll.now args.count args.p
+    rw (taken-run (decode args.table.now.bytes.now) args.state.now args.roll.now args.count args.p
     (sym status-at.ensures ∙ c.if-status-eq-RUNNING.true))
     c.run.ensures
 

@@ -28,9 +28,9 @@ unfolding process_fits
 returns-then-not-words_fit c =
     let loop = c.loop-p in
     let args = c.args in
-    let fails : process_fits (decode args.table.now) args.state.now args.roll.now loop.p ≡ false =
+    let fails : process_fits (decode args.table.now.bytes.now) args.state.now args.roll.now loop.p ≡ false =
     rw (← c.process_at.ensures) (sym c.words_fit.ensures ∙ c.if-not-words_fit.true) in
-    sym (first-at (process_fits (decode args.table.now) args.state.now args.roll.now) _ loop.p
+    sym (first-at (process_fits (decode args.table.now.bytes.now) args.state.now args.roll.now) _ loop.p
     c.loop-p-test.true loop.invariant fails)
 
 pub loop-p-preserved : goal.loop-p-preserved
@@ -38,9 +38,9 @@ unfolding process_fits
 loop-p-preserved c =
     let loop = c.loop-p in
     let args = c.args in
-    let passes : process_fits (decode args.table.now) args.state.now args.roll.now loop.p ≡ true =
+    let passes : process_fits (decode args.table.now.bytes.now) args.state.now args.roll.now loop.p ≡ true =
     rw (← c.process_at.ensures) (sym c.words_fit.ensures ∙ c.if-not-words_fit.false) in
-    passed-more (process_fits (decode args.table.now) args.state.now args.roll.now) loop.p loop.invariant passes
+    passed-more (process_fits (decode args.table.now.bytes.now) args.state.now args.roll.now) loop.p loop.invariant passes
 
 pub returns : goal.returns
 returns c =

@@ -5,4 +5,4 @@ use Rattle.rules.specs.Table.{decode}
 use Rattle.preconditions.proofs.fitting.first_unfit.Given as goal
 
 abbrev pub invariant-loop-p : goal.invariant-loop-p
-invariant-loop-p l = Passed (process_fits (decode l.table) l.state l.roll) l.p
+invariant-loop-p l = Passed (process_fits (decode l.own.bytes.now) l.state l.roll) l.p

@@ -1,5 +1,5 @@
 -- `preconditions::fitting::leave_on_top` meets its contract.
-use Rattle.table.proofs.PassingLaws.{readable, read-formed, read-built}
+use Rattle.table.proofs.PassingLaws.{read-formed}
 use Rattle.process.proofs.StatementLaws.{statement-below}
 use Rattle.rules.proofs.KindLaws.{leave_of, no-leave}
 use Rattle.rules.specs.declared.Node.{Node}
@@ -20,11 +20,11 @@ is-leave m =
 pub kind_at-requires : goal.kind_at-requires
 kind_at-requires c =
     let given = c.requires in
-    readable (read-built given.0) (rw c.top-n.ensures (statement-below _ (read-formed given.0) _ given.2))
+    rw (c.top-n.ensures, c.args.table.now.sized.nodes-read) (statement-below _ (read-formed given.0) _ given.2)
 
 pub returns : goal.returns
 unfolding statement_at
 returns c =
-    let table = c.args.table.now in
+    let table = c.args.table.now.bytes.now in
     let same = c.kind_at.ensures ∙ ap (λ n. (node_at (decode table) n).kind) c.top-n.ensures in
     ap (λ k. eqb k 26) same ∙ is-leave (node_at (decode table) _)

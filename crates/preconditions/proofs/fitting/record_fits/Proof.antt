@@ -52,7 +52,7 @@ returns-4 c =
 
 -- past the third test, the stack holds an entry
 abbrev start : tie.Else-empty-2 → tie.Start
-start c = c.before.before.before.before.before.before.before
+start c = c.before.before.before.before.before.before
 
 stacked : (c : tie.Else-empty-2) → Stacked (start c).args.words.now
 stacked c =
@@ -60,7 +60,7 @@ stacked c =
     let some : get_or words depth_at 0 ≡ 0 → ⊥ = eqb-false (get_or words depth_at 0) 0 c.if-empty-2.false-raw in
     record { sized = (start c).requires.1; held = omega arith; bounded = (start c).requires.2 }
 
-on_top : (c : tie.Else-empty-2) → is_statement (decode (start c).args.table.now) (top (start c).args.words.now) ≡ true
+on_top : (c : tie.Else-empty-2) → is_statement (decode (start c).args.table.now.bytes.now) (top (start c).args.words.now) ≡ true
 on_top c = top-fits _ _ (start c).requires.4 (stacked c).held
 
 leave-on-top-requires : tie.Need-leave_on_top-requires

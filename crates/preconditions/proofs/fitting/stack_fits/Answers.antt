@@ -9,7 +9,6 @@ use Rattle.rules.specs.Choice.{all_below}
 use Rattle.rules.specs.Process.{depth_at, stack_at}
 use Rattle.rules.specs.Step.{stack_fits}
 use Rattle.rules.specs.WellFormed.{is_statement}
-use Rattle.table.proofs.PassingLaws.{read-sized}
 use Rattle.rules.proofs.ChoiceLaws.{Passed, passed_none, passed-more, all_true, all-false}
 use Rattle.rules.specs.Table.{decode}
 use Rattle.preconditions.proofs.fitting.stack_fits.Invariants.{entry-fits}
@@ -31,29 +30,23 @@ loop-i-init c = passed_none _
 pub overflow_cast-words : goal.overflow_cast-words
 overflow_cast-words c = omega (arith, c.type_inv.words (stack_at + 2 * c.loop-i.i))
 
-pub names_statement-requires : goal.names_statement-requires
-names_statement-requires c = read-sized c.requires.0
-
 pub returns-then-not-names_statement : goal.returns-then-not-names_statement
 unfolding stack_fits
 returns-then-not-names_statement c =
     let args = c.args in
-    sym (all-false (entry-fits args.table.now args.words.now) _ (2 * c.loop-i.i) (omega arith)
+    sym (all-false (entry-fits args.table.now.bytes.now args.words.now) _ (2 * c.loop-i.i) (omega arith)
     (sym c.names_statement.ensures ∙ c.if-not-names_statement.true))
 
 pub overflow_cast-words-in-loop-i : goal.overflow_cast-words-in-loop-i
 overflow_cast-words-in-loop-i c = omega (arith, c.type_inv.words (stack_at + 2 * c.loop-i.i + 1))
-
-pub names_statement-requires-in-loop-i : goal.names_statement-requires-in-loop-i
-names_statement-requires-in-loop-i c = read-sized c.requires.0
 
 pub returns-then-not-names_statement-2 : goal.returns-then-not-names_statement-2
 unfolding stack_fits
 returns-then-not-names_statement-2 c =
     let args = c.args in
     let i = c.loop-i.i in
-    sym (all-false (entry-fits args.table.now args.words.now) _ (2 * i + 1) (omega arith)
-    (sym (entry_at args.table.now args.words.now (2 * i + 1) (stack_at + 2 * i + 1) _ (omega arith)
+    sym (all-false (entry-fits args.table.now.bytes.now args.words.now) _ (2 * i + 1) (omega arith)
+    (sym (entry_at args.table.now.bytes.now args.words.now (2 * i + 1) (stack_at + 2 * i + 1) _ (omega arith)
     c.names_statement-in-loop-i.ensures)
     ∙ c.if-not-names_statement-2.true))
 
@@ -64,7 +57,7 @@ loop-i-preserved c =
     let i = loop.i in
     let first = sym c.names_statement.ensures ∙ c.if-not-names_statement.false in
     let second =
-    sym (entry_at args.table.now args.words.now (2 * i + 1) (stack_at + 2 * i + 1) _ (omega arith)
+    sym (entry_at args.table.now.bytes.now args.words.now (2 * i + 1) (stack_at + 2 * i + 1) _ (omega arith)
     c.names_statement-in-loop-i.ensures)
     ∙ c.if-not-names_statement-2.false in
     let both = passed-more _ _ (passed-more _ _ loop.invariant first) second in
@@ -75,15 +68,12 @@ unfolding stack_fits
 returns-then-depth-eq0 c =
     let args = c.args in
     let loop = c.loop-i in
-    sym (all_true (entry-fits args.table.now args.words.now) _ (λ k l. loop.invariant k (omega arith)))
+    sym (all_true (entry-fits args.table.now.bytes.now args.words.now) _ (λ k l. loop.invariant k (omega arith)))
 
 pub overflow_cast-words-2 : goal.overflow_cast-words-2
 overflow_cast-words-2 c =
     let words = c.args.words.now in
     omega (arith, c.type_inv.words (depth_at + get_or words depth_at 0))
-
-pub names_statement-requires-2 : goal.names_statement-requires-2
-names_statement-requires-2 c = read-sized c.requires.0
 
 pub returns : goal.returns
 unfolding stack_fits
@@ -92,5 +82,5 @@ returns c =
     let loop = c.loop-i in
     let high = get_or args.words.now depth_at 0 in
     let odd : high ≡ 2 * loop.i + 1 = omega arith in
-    decides (entry-fits args.table.now args.words.now) (2 * loop.i) high _ odd loop.invariant
-    (entry_at args.table.now args.words.now (2 * loop.i) (depth_at + high) _ (omega arith) c.names_statement-2.ensures)
+    decides (entry-fits args.table.now.bytes.now args.words.now) (2 * loop.i) high _ odd loop.invariant
+    (entry_at args.table.now.bytes.now args.words.now (2 * loop.i) (depth_at + high) _ (omega arith) c.names_statement-2.ensures)

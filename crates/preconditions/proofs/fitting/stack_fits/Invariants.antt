@@ -13,4 +13,4 @@ abbrev pub entry-fits : List ℕ → List ℕ → ℕ → Bool
 entry-fits table words i = is_statement (decode table) (get_or words (stack_at + i) 0)
 
 abbrev pub invariant-loop-i : goal.invariant-loop-i
-invariant-loop-i l = Passed (entry-fits l.table l.words) (2 * l.i)
+invariant-loop-i l = Passed (entry-fits l.table.bytes.now l.words) (2 * l.i)

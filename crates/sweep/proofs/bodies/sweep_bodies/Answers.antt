@@ -11,11 +11,11 @@ use Rattle.sweep.proofs.bodies.sweep_bodies.Goals as goal
 pub loop-p-init : goal.loop-p-init
 loop-p-init c =
     let given = c.requires in
-    (given.1, entered-none _ _ _ given.2, omega arith)
+    (given.0, entered-none _ _ _ given.1, omega arith)
 
 pub loop-p-preserved : goal.loop-p-preserved
 loop-p-preserved c =
-    let given = c.requires.0 in
+    let given = c.args.table.now.sized in
     let inv = c.loop-p.invariant in
     let done = c.sweep_body-best.ensures in
     let low : c.loop-p.p < 16 = omega (arith, given.procedures-read, given.procedures-high) in (
@@ -27,5 +27,5 @@ loop-p-preserved c =
 pub returns : goal.returns
 returns c =
     let inv = c.loop-p.invariant in
-    let all : c.loop-p.p ≡ procedures (decode c.args.table.now) = omega (arith, c.requires.0.procedures-read) in
+    let all : c.loop-p.p ≡ procedures (decode c.args.table.now.bytes.now) = omega (arith, c.args.table.now.sized.procedures-read) in
     (entered_all _ _ _ (simp all at inv.1), inv.0, inv.2)

@@ -6,4 +6,4 @@ use Rattle.sweep.proofs.EndLaws.{Entered}
 use Rattle.sweep.proofs.bodies.sweep_bodies.Given as goal
 
 abbrev pub invariant-loop-p : goal.invariant-loop-p
-invariant-loop-p l = (length l.marks ≡ 8) × Entered l.table l.p l.best l.marks × (l.best ≤ l.first)
+invariant-loop-p l = (length l.marks ≡ 8) × Entered l.table.bytes.now l.p l.best l.marks × (l.best ≤ l.first)

@@ -22,7 +22,7 @@ pub note-requires : goal.note-requires
 note-requires c =
     let fits = passed c.procedure_fits.ensures c.if-not-procedure_fits.false-raw in
     let given = c.requires in
-    (omega (arith, body-low _ _ fits, c.body.ensures, given.0.nodes-high), given.2)
+    (omega (arith, body-low _ _ fits, c.body.ensures, c.args.table.now.sized.nodes-high), given.1)
 
 pub returns : goal.returns
 unfolding body_best body_marks

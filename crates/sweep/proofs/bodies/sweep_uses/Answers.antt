@@ -4,6 +4,6 @@ use Rattle.sweep.proofs.bodies.sweep_uses.Goals as goal
 
 pub returns : goal.returns
 returns c =
-    let given = c.requires.0 in
+    let given = c.args.table.now.sized in
     let done = c.sweep_bodies-best.ensures in
     uses-met given done.0 done.2 c.unused.ensures

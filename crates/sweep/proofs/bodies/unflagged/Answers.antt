@@ -14,5 +14,5 @@ loop-p-init c = omega (arith, c.requires.2)
 pub loop-p-preserved : goal.loop-p-preserved
 loop-p-preserved c =
     let args = c.args in
-    let more = least_more (effect_code (decode args.table.now) (facts_plane args.planes.now)) c.loop-p.p in
+    let more = least_more (effect_code (decode args.table.now.bytes.now) (facts_plane args.planes.now)) c.loop-p.p in
     omega (arith, c.loop-p.invariant, c.flag_body-best.ensures, more)

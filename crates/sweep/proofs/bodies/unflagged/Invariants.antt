@@ -8,4 +8,4 @@ use Rattle.sweep.specs.Asked.{effect_code}
 use Rattle.sweep.proofs.bodies.unflagged.Given as goal
 
 abbrev pub invariant-loop-p : goal.invariant-loop-p
-invariant-loop-p l = l.best ≡ min l.rule (least_below (effect_code (decode l.table) (facts_plane l.planes)) l.p)
+invariant-loop-p l = l.best ≡ min l.rule (least_below (effect_code (decode l.table.bytes.now) (facts_plane l.planes)) l.p)

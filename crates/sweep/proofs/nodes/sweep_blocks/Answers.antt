@@ -4,17 +4,17 @@ use Rattle.sweep.proofs.NodeLaws.{blocking_none, blocking_ends, block-stops, blo
 use Rattle.sweep.proofs.nodes.sweep_blocks.Goals as goal
 
 pub loop-p-init : goal.loop-p-init
-loop-p-init c = rw c.requires.1 (blocking_none _)
+loop-p-init c = rw c.requires (blocking_none _)
 
 pub returns-then-reached-last : goal.returns-then-reached-last
 returns-then-reached-last c =
-    block-stops _ c.loop-p.invariant _ _ (omega (arith, c.requires.0.nodes-read)) _ _ c.sweep_quickly-reached.ensures
+    block-stops _ c.loop-p.invariant _ (omega (arith, c.args.table.now.sized.nodes-read)) _ _ c.sweep_quickly-reached.ensures
 
 pub loop-p-preserved : goal.loop-p-preserved
 loop-p-preserved c =
-    let given = c.requires.0 in
-    block_more _ c.loop-p.invariant _ _ (omega (arith, given.nodes-read)) _ _ c.sweep_quickly-reached.ensures
+    let given = c.args.table.now.sized in
+    block_more _ c.loop-p.invariant _ (omega (arith, given.nodes-read)) _ _ c.sweep_quickly-reached.ensures
     (omega (arith, given.procedures-read)) (omega arith) c.body-last.ensures (λ less. omega arith)
 
 pub returns : goal.returns
-returns c = blocking_ends _ c.loop-p.invariant (omega (arith, c.requires.0.procedures-read))
+returns c = blocking_ends _ c.loop-p.invariant (omega (arith, c.args.table.now.sized.procedures-read))

@@ -4,4 +4,4 @@ use Rattle.rules.specs.Table.{decode}
 use Rattle.sweep.proofs.nodes.sweep_blocks.Given as goal
 
 abbrev pub invariant-loop-p : goal.invariant-loop-p
-invariant-loop-p l = Blocking (decode l.table) l.planes l.reached.node l.p l.reached.rule
+invariant-loop-p l = Blocking (decode l.table.bytes.now) l.planes l.reached.node l.p l.reached.rule

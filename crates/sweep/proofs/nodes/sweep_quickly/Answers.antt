@@ -16,8 +16,8 @@ returns-then-found-eq-STUCK c =
 
 pub loop-node-preserved : goal.loop-node-preserved
 loop-node-preserved c =
-    let given = c.requires in
-    going_more _ _ _ _ _ given.0 (omega (arith, given.2, given.0.nodes-read)) _ _ _ _ _ _ c.loop-node.invariant
+    let sized = c.args.table.now.sized in
+    going_more _ _ _ _ _ sized (omega (arith, c.requires.1, sized.nodes-read)) _ _ _ _ _ _ c.loop-node.invariant
     c.loop-node-test.true c.quick-found.ensures c.if-found-eq-STUCK.false c.lesser-rule.ensures
 
 pub returns : goal.returns

@@ -4,4 +4,4 @@ use Rattle.rules.specs.Table.{decode}
 use Rattle.sweep.proofs.nodes.sweep_quickly.Given as goal
 
 abbrev pub invariant-loop-node : goal.invariant-loop-node
-invariant-loop-node l = Going (decode l.table) l.first l.end l.start l.initial.planes l.planes l.node l.rule
+invariant-loop-node l = Going (decode l.own.bytes.now) l.first l.end l.start l.initial.planes l.planes l.node l.rule

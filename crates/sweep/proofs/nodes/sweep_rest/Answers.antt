@@ -5,17 +5,11 @@ use Rattle.sweep.proofs.nodes.sweep_rest.Goals as goal
 
 pub loop-reached-init : goal.loop-reached-init
 loop-reached-init c =
-    let given = c.requires in
-    resting_none _ _ given.0 _ _ _ _ given.1 c.sweep_quickly-reached.ensures
+    resting_none _ _ c.args.table.now.sized _ _ _ _ c.requires c.sweep_quickly-reached.ensures
 
 pub loop-reached-preserved : goal.loop-reached-preserved
 loop-reached-preserved c =
-    let given = c.requires in
     let exact = c.exact-best.ensures in
-    resting_more _ _ given.0 _ _ _ _ _ _ _ c.loop-reached.invariant (omega (arith, given.0.nodes-read)) exact.0 exact.1
+    let sized = c.args.table.now.sized in
+    resting_more _ _ sized _ _ _ _ _ _ _ c.loop-reached.invariant (omega (arith, sized.nodes-read)) exact.0 exact.1
     c.sweep_quickly-reached-in-loop-reached.ensures
-
-pub returns : goal.returns
-returns c =
-    let given = c.requires in
-    resting_ends _ _ given.0 _ _ _ _ _ c.loop-reached.invariant (λ less. omega arith) given.1

@@ -5,7 +5,7 @@ use Rattle.rules.specs.Table.{decode}
 use Rattle.sweep.proofs.nodes.sweep_rest.Given as goal
 
 abbrev pub invariant-loop-reached : goal.invariant-loop-reached
-invariant-loop-reached l = Resting (decode l.table) l.planes l.best l.reached
+invariant-loop-reached l = Resting (decode l.table.bytes.now) l.planes l.best l.reached
 
 abbrev pub decreases-loop-reached : goal.decreases-loop-reached
 decreases-loop-reached l = l.count - l.reached.node

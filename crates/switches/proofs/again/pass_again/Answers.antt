@@ -4,7 +4,7 @@ use mathlib.Core.Path.{refl, sym, ◌∙◌}
 use native.Mathlib.Omega.{arith}
 use Rattle.leaves.proofs.PassLaws.{none_passed, passed_none, passed-all}
 use Rattle.loops.proofs.BuiltLaws.{no_leave_at}
-use Rattle.table.proofs.PassingLaws.{read-formed, read-built, header-nodes}
+use Rattle.table.proofs.PassingLaws.{read-formed, read-built}
 use Rattle.rules.specs.Judgement.{counted}
 use Rattle.rules.specs.Table.{decode}
 use Rattle.table.proofs.BitLaws.{bit-zero}
@@ -20,7 +20,7 @@ has_leave-requires c = read-built c.requires.passing.0
 pub returns-then-not-has_leave : goal.returns-then-not-has_leave
 returns-then-not-has_leave c =
     let (read, beside, high) = c.requires.passing in
-    let table = c.args.table.now in
+    let table = c.args.table.now.bytes.now in
     let planes = c.args.planes.now in
     let formed = read-formed read in
     let none = sym c.has_leave.ensures ∙ c.if-not-has_leave.true in (
@@ -41,24 +41,24 @@ loop-first-init c =
 pub next_stretch-requires : goal.next_stretch-requires
 next_stretch-requires c =
     let read = c.requires.passing.0 in
-    (c.loop-first.invariant.1.size, c.loop-first.invariant.0, omega (arith, header-nodes read, (read-formed read).nodes-high))
+    (c.loop-first.invariant.1.size, c.loop-first.invariant.0, omega (arith, c.args.table.now.sized.nodes-read, (read-formed read).nodes-high))
 
 pub pass_nodes-least-requires : goal.pass_nodes-least-requires
 pass_nodes-least-requires c =
     let read = c.requires.passing.0 in
     let (inside, beside, so_far) = c.loop-first.invariant in
     let (past, from, some, stretch) = c.in-Some.ensures in
-    (read-built read, so_far.high, work-length c.loop-first.planes beside.size, stretch.from, omega (arith, stretch.to, header-nodes read))
+    (read-built read, so_far.high, work-length c.loop-first.planes beside.size, stretch.from, omega (arith, stretch.to, c.args.table.now.sized.nodes-read))
 
 pub loop-first-preserved : goal.loop-first-preserved
 loop-first-preserved c =
     let read = c.requires.passing.0 in
-    let table = c.args.table.now in
+    let table = c.args.table.now.bytes.now in
     let planes = c.loop-first.planes in
     let (inside, beside, so_far) = c.loop-first.invariant in
     let (past, from, some, stretch) = c.in-Some.ensures in
     let formed = read-formed read in
-    let all = header-nodes read in
+    let all = c.args.table.now.sized.nodes-read in
     let within = stretch_within (decode table) formed planes beside all stretch in
     let counts = stretch_counts (decode table) formed planes beside all stretch in
     let words = c.pass_nodes-least.new.planes in
@@ -74,8 +74,8 @@ pub returns : goal.returns
 returns c =
     let read = c.requires.passing.0 in
     let (inside, beside, so_far) = c.loop-first.invariant in
-    let all = header-nodes read in
+    let all = c.args.table.now.sized.nodes-read in
     let planes = c.loop-first.planes in
     let past = rw all at c.in_default.ensures in
-    let done = passed-over c.args.table.now (read-formed read) planes beside _ _ past (omega arith) (omega arith) _ _ (work_planes planes) _ so_far in
+    let done = passed-over c.args.table.now.bytes.now (read-formed read) planes beside _ _ past (omega arith) (omega arith) _ _ (work_planes planes) _ so_far in
     (beside, passed-all _ _ _ _ done refl)

@@ -10,8 +10,8 @@ use Rattle.switches.proofs.again.pass_again.Given as goal
 
 abbrev pub invariant-loop-first : goal.invariant-loop-first
 invariant-loop-first l =
-    (l.n ≤ l.header.nodes) × Beside (decode l.table) l.planes
-    × PassedTo (decode l.table) (counted (decode l.table)) l.rule (work_planes l.initial.planes) l.n (work_planes l.planes) l.least
+    (l.n ≤ l.table.header.nodes) × Beside (decode l.table.bytes.now) l.planes
+    × PassedTo (decode l.table.bytes.now) (counted (decode l.table.bytes.now)) l.rule (work_planes l.initial.planes) l.n (work_planes l.planes) l.least
 
 abbrev pub decreases-loop-first : goal.decreases-loop-first
-decreases-loop-first l = l.header.nodes - l.n
+decreases-loop-first l = l.table.header.nodes - l.n

@@ -7,7 +7,7 @@ use Rattle.switches.proofs.again.visit_again.Given as goal
 
 abbrev pub invariant-loop-node : goal.invariant-loop-node
 invariant-loop-node l =
-    (l.n ≤ l.header.nodes) × Beside (decode l.table) l.planes × VisitedTo (decode l.table) l.n (work_planes l.planes) l.least
+    (l.n ≤ l.table.header.nodes) × Beside (decode l.table.bytes.now) l.planes × VisitedTo (decode l.table.bytes.now) l.n (work_planes l.planes) l.least
 
 abbrev pub decreases-loop-node : goal.decreases-loop-node
-decreases-loop-node l = l.header.nodes - l.n
+decreases-loop-node l = l.table.header.nodes - l.n

@@ -4,4 +4,4 @@ use Rattle.switches.proofs.AsideLaws.{AsideTo}
 use Rattle.switches.proofs.aside.set_aside.Given as goal
 
 abbrev pub invariant-loop-n : goal.invariant-loop-n
-invariant-loop-n l = AsideTo (decode l.table) l.n l.aside
+invariant-loop-n l = AsideTo (decode l.table.bytes.now) l.n l.aside

@@ -1,13 +1,10 @@
 -- `aside::set_node` meets its contract.
 use mathlib.Core.Path.{sym, ◌∙◌}
 use native.Mathlib.Omega.{arith}
-use Rattle.table.proofs.PassingLaws.{read-formed, readable, read-built}
+use Rattle.table.proofs.PassingLaws.{read-formed}
 use Rattle.switches.specs.Aside.{aside_marks}
 use Rattle.switches.proofs.PartsLaws.{plain-marks}
 use Rattle.switches.proofs.aside.set_node.Goals as goal
-
-pub kind_at-requires : goal.kind_at-requires
-kind_at-requires c = readable (read-built c.requires.0) c.requires.1
 
 pub returns-then-kind_at-lt-SEQUENCE : goal.returns-then-kind_at-lt-SEQUENCE
 returns-then-kind_at-lt-SEQUENCE c = sym (plain-marks _ _ _ (omega (arith, c.kind_at.ensures, c.if-kind_at-lt-SEQUENCE.true)))

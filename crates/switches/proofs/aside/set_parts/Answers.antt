@@ -1,14 +1,11 @@
 -- `aside::set_parts` meets its contract: each kind by its parts.
 use mathlib.Core.Path.{sym, ◌∙◌, ap}
 use native.Mathlib.Omega.{arith}
-use Rattle.table.proofs.PassingLaws.{read-formed, readable, read-built}
+use Rattle.table.proofs.PassingLaws.{read-formed}
 use Rattle.rules.specs.declared.Node.{Node}
 use Rattle.table.specs.Marks.{with_bits}
 use Rattle.switches.proofs.PartsLaws.{sequence-few, sequence-inner, branch-few, branch-inner, loop-few, loop-inner, other-inner}
 use Rattle.switches.proofs.aside.set_parts.Goals as goal
-
-pub node_at-node-requires : goal.node_at-node-requires
-node_at-node-requires c = readable (read-built c.requires.0) c.requires.1
 
 pub set_both-requires : goal.set_both-requires
 set_both-requires c =

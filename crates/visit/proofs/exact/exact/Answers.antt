@@ -26,11 +26,6 @@ returns-then-not-node_fits c =
     let fits = failed c.node_fits.ensures c.if-not-node_fits.true-raw in
     (simp (known, zero, fits, c.worse-then-not-node_fits.ensures), simp (known, zero, fits))
 
-pub note_parts-requires : goal.note_parts-requires
-note_parts-requires c =
-    let given = c.requires in
-    (given.0, given.1, given.2, passed c.node_fits.ensures c.if-not-node_fits.false-raw)
-
 pub returns : goal.returns
 unfolding node_best node_marks
 returns c =

@@ -5,11 +5,6 @@ use Rattle.table.specs.Marks.{with_bits}
 use Rattle.visit.specs.Exact.{repeated_code}
 use Rattle.visit.proofs.exact.note_field.Goals as goal
 
-pub note-requires : goal.note-requires
-note-requires c =
-    let given = c.requires in
-    (given.0 (sym c.is_part.ensures ∙ c.if-is_part.true), given.1)
-
 pub returns-then-is_part : goal.returns-then-is_part
 unfolding field_parts with_bits repeated_code
 returns-then-is_part c =

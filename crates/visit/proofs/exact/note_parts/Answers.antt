@@ -6,23 +6,23 @@ use Rattle.visit.proofs.exact.note_parts.Goals as goal
 pub note_field-after_a-requires : goal.note_field-after_a-requires
 note_field-after_a-requires c =
     let given = c.requires in
-    let below = a-below _ _ _ c.node_at-node.ensures given.3 c.roles_of-roles.ensures in
-    (λ part. markable given.0 given.1 (below part), given.2)
+    let below = a-below _ _ _ c.node_at-node.ensures given.2 c.roles_of-roles.ensures in
+    (λ part. markable c.args.table.now.sized given.0 (below part), given.1)
 
 pub note_field-after_b-requires : goal.note_field-after_b-requires
 note_field-after_b-requires c =
     let given = c.requires in
-    let below = b-below _ _ _ c.node_at-node.ensures given.3 c.roles_of-roles.ensures in (
-      λ part. markable given.0 given.1 (below part),
-      omega (arith, c.note_field-after_a.auto.marks, given.2),
+    let below = b-below _ _ _ c.node_at-node.ensures given.2 c.roles_of-roles.ensures in (
+      λ part. markable c.args.table.now.sized given.0 (below part),
+      omega (arith, c.note_field-after_a.auto.marks, given.1),
     )
 
 pub note_field-requires : goal.note_field-requires
 note_field-requires c =
     let given = c.requires in
-    let below = c-below _ _ _ c.node_at-node.ensures given.3 c.roles_of-roles.ensures in (
-      λ part. markable given.0 given.1 (below part),
-      omega (arith, c.note_field-after_a.auto.marks, c.note_field-after_b.auto.marks, given.2),
+    let below = c-below _ _ _ c.node_at-node.ensures given.2 c.roles_of-roles.ensures in (
+      λ part. markable c.args.table.now.sized given.0 (below part),
+      omega (arith, c.note_field-after_a.auto.marks, c.note_field-after_b.auto.marks, given.1),
     )
 
 pub returns : goal.returns

@@ -1,13 +1,6 @@
 -- `facts::fact_from` meets its contract: the arms of the match are the clauses of `sourced`.
-use native.Mathlib.Omega.{arith}
 use Rattle.visit.specs.Facts.{sourced}
 use Rattle.visit.proofs.facts.fact_from.Goals as goal
-
-pub effect_flag-requires : goal.effect_flag-requires
-effect_flag-requires c =
-    let given = c.requires in
-    let called = given.2 c.in-Called.is in
-    omega (arith, called, given.0.size, given.0.procedures-read, given.0.nodes-low)
 
 pub returns-in-Never : goal.returns-in-Never
 unfolding sourced

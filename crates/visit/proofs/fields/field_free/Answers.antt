@@ -28,7 +28,7 @@ marked-requires c =
     let given = c.requires in
     let below = part-below _ _ _ _ (passed c.field_fits.ensures c.if-not-field_fits.false-raw)
     (sym c.is_part.ensures ∙ c.if-is_part.true) in
-    omega (arith, below, given.0.nodes-high, given.0.nodes-read, given.1, given.2)
+    omega (arith, below, c.args.table.now.sized.nodes-high, c.args.table.now.sized.nodes-read, given.0, given.1)
 
 pub returns-then-is_part : goal.returns-then-is_part
 unfolding field_free

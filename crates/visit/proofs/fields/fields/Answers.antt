@@ -7,7 +7,7 @@ use Rattle.visit.proofs.fields.fields.Goals as goal
 pub returns : goal.returns
 returns c =
     let planes = c.args.planes.now in
-    let size = c.requires.2 in
+    let size = c.requires.1 in
     let words = c.take_fields.new.marks in
     let many = c.take_fields.auto.marks ∙ used-length planes size in
     record {

@@ -1,15 +1,8 @@
 -- `fields::take` meets its contract: what a field names is marked.
 use mathlib.Core.Path.{sym, ◌∙◌}
-use native.Mathlib.Omega.{arith}
 use Rattle.table.specs.Marks.{with_bits}
 use Rattle.table.specs.Roles.{field_parts}
 use Rattle.visit.proofs.fields.take.Goals as goal
-
-pub mark-requires : goal.mark-requires
-mark-requires c =
-    let given = c.requires in
-    let so = given.0 (sym c.is_part.ensures ∙ c.if-is_part.true) in
-    omega (arith, so, given.1)
 
 pub returns-then-is_part : goal.returns-then-is_part
 unfolding with_bits field_parts

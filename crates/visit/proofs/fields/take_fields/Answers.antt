@@ -18,24 +18,24 @@ pub take-requires : goal.take-requires
 take-requires c =
     let given = c.requires in
     let t = three-tests _ _ _ _ _ (passed c.fields_free.ensures c.if-not-fields_free.false-raw) in (
-      λ part. markable given.0 given.1 (part_low _ _ _ _ _ t.a part),
-      given.2,
+      λ part. markable c.args.table.now.sized given.0 (part_low _ _ _ _ _ t.a part),
+      given.1,
     )
 
 pub take-requires-2 : goal.take-requires-2
 take-requires-2 c =
     let given = c.requires in
     let t = three-tests _ _ _ _ _ (passed c.fields_free.ensures c.if-not-fields_free.false-raw) in (
-      λ part. markable given.0 given.1 (part_low _ _ _ _ _ t.b part),
-      omega (arith, c.take.auto.marks, given.2),
+      λ part. markable c.args.table.now.sized given.0 (part_low _ _ _ _ _ t.b part),
+      omega (arith, c.take.auto.marks, given.1),
     )
 
 pub take-requires-3 : goal.take-requires-3
 take-requires-3 c =
     let given = c.requires in
     let t = three-tests _ _ _ _ _ (passed c.fields_free.ensures c.if-not-fields_free.false-raw) in (
-      λ part. markable given.0 given.1 (part_low _ _ _ _ _ t.c part),
-      omega (arith, c.take.auto.marks, c.take-2.auto.marks, given.2),
+      λ part. markable c.args.table.now.sized given.0 (part_low _ _ _ _ _ t.c part),
+      omega (arith, c.take.auto.marks, c.take-2.auto.marks, given.1),
     )
 
 pub returns : goal.returns
