@@ -73,7 +73,8 @@ fn go_on(marks: &mut [u32], n: usize, a: usize) -> Option<usize>
 
 // Parts a and b of node n wait if they may hold a call, and the highest of all is taken.
 fn on_to_either(table: &Table, marks: &mut [u32], n: usize, a: usize, b: usize) -> Option<usize>
-    requires { Fitting table.now.bytes.now × (n < table.now.header.nodes) × (a < n) × (b < n) × (length marks.old ≡ 8) × ClearFrom marks.old (n / 32 + 1) }
+    requires { Fitting table.now.bytes.now × (n < table.now.header.nodes) × (a < n) × (b < n)
+        × (length marks.old ≡ 8) × ClearFrom marks.old (n / 32 + 1) }
     ensures { Topped (with_bits marks.old (callers (decode table.now.bytes.now) (a ∷ b ∷ []))) marks.new result }
 {
     if may_call(table, b) {
@@ -89,7 +90,8 @@ fn on_to_either(table: &Table, marks: &mut [u32], n: usize, a: usize, b: usize) 
 // From node n on the way down: its statement parts that may hold a call wait from now on, and the highest is taken. The one part of a
 // loop stands for both.
 fn descend(table: &Table, marks: &mut [u32], n: usize) -> Option<usize>
-    requires { Fitting table.now.bytes.now × (n < table.now.header.nodes) × (length marks.old ≡ 8) × ClearFrom marks.old (n / 32 + 1) }
+    requires { Fitting table.now.bytes.now × (n < table.now.header.nodes) × (length marks.old ≡ 8)
+        × ClearFrom marks.old (n / 32 + 1) }
     ensures { Topped (with_bits marks.old (waiting (decode table.now.bytes.now) n)) marks.new result }
 {
     let node = table.node_at(n);
@@ -131,7 +133,8 @@ fn first_high_call(table: &Table, marks: &mut [u32], p: usize) -> usize
 // The first call that does not call below its own procedure.
 pub fn first_miscalled(table: &Table, marks: &mut [u32]) -> usize
     requires { Fitting table.now.bytes.now × (marks.old ≡ replicate 8 0) }
-    ensures value { result ≡ first_failing (λ n. called_below (decode table.now.bytes.now) n (statement_at (decode table.now.bytes.now) n))
+    ensures value { result ≡ first_failing
+        (λ n. called_below (decode table.now.bytes.now) n (statement_at (decode table.now.bytes.now) n))
         (nodes (decode table.now.bytes.now)) }
     ensures marks_after { marks.new ≡ replicate 8 0 }
 {

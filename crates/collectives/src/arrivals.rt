@@ -86,12 +86,7 @@ fn all_ended(roll: &[u32], count: usize) -> bool
     requires { length roll.now ≡ arrival_size * count }
     ensures { result ≡ all_below (λ p. eqb (status_at roll.now p) ended) count }
 {
-    for p in 0..count {
-        if status_at(roll, p) != ENDED {
-            return false;
-        }
-    }
-    true
+    (0..count).all(|p| status_at(roll, p) == ENDED)
 }
 
 pub fn team_status(roll: &[u32], count: usize) -> TeamStatus

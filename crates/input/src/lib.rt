@@ -96,10 +96,7 @@ pub fn word_behind(input: &[u8], words: u32) -> u32
 pub fn asked(input: &[u8], words: u32) -> Verdict
     ensures { result ≡ question25 words input.now }
 {
-    if input.len() > MOST_INPUT_BYTES {
-        return refused(25, 0);
-    }
-    if input.len() < end_behind(input, words) {
+    if input.len() > MOST_INPUT_BYTES || input.len() < end_behind(input, words) {
         return refused(25, 0);
     }
     Ok(())

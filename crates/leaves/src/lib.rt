@@ -86,7 +86,8 @@ fn left_by_leave(planes: &[u32], n: usize, b: u32) -> usize
 }
 
 fn pass_node(table: &Table, planes: &mut [u32], n: usize) -> usize
-    requires { Passing well_built table.now.bytes.now × (n < nodes (decode table.now.bytes.now)) × (length planes.old ≡ all_planes) }
+    requires { Passing well_built table.now.bytes.now × (n < nodes (decode table.now.bytes.now))
+        × (length planes.old ≡ all_planes) }
     ensures { NodePassed (decode table.now.bytes.now) n planes.old planes.new result }
 {
     match table.kind_at(n) {
@@ -147,7 +148,8 @@ pub fn clear_leaves(planes: &mut [u32])
 pub fn pass_leaves(table: &Table, planes: &mut [u32], rule: usize) -> usize
     requires passing { Passing well_built table.now.bytes.now × (rule ≤ none) × (length planes.old ≡ all_planes) }
     requires noted_to { NotedTo (decode table.now.bytes.now) (nodes (decode table.now.bytes.now)) (leaves_plane planes.old) }
-    ensures { LeavesPassed (decode table.now.bytes.now) (statement_at (decode table.now.bytes.now)) rule planes.old planes.new result }
+    ensures { LeavesPassed (decode table.now.bytes.now) (statement_at (decode table.now.bytes.now))
+        rule planes.old planes.new result }
 {
     if none_marked(&planes[LEAVES..PLANES]) {
         return rule;

@@ -52,7 +52,8 @@ fn first_open(table: &Table) -> usize
 // The first leave with no while around it, in a table whose nodes are all visited.
 pub fn first_loose(table: &Table, planes: &[u32]) -> usize
     requires passing { Passing well_built table.now.bytes.now × (length planes.now ≡ all_planes) }
-    requires held_to { HeldTo (decode table.now.bytes.now) (statement_at (decode table.now.bytes.now)) (nodes (decode table.now.bytes.now)) (leaves_plane planes.now) }
+    requires held_to { HeldTo (decode table.now.bytes.now) (statement_at (decode table.now.bytes.now))
+        (nodes (decode table.now.bytes.now)) (leaves_plane planes.now) }
     ensures { result ≡ first_failing (leave_enclosed (decode table.now.bytes.now)) (nodes (decode table.now.bytes.now)) }
 {
     if bodies_closed(table, planes) {

@@ -3,7 +3,7 @@ use mathlib.Core.Bool.{Bool, true, false, cond}
 use mathlib.Core.List.{List, [], ◌∷◌}
 use mathlib.Core.Path.{◌≡◌, refl, sym, ◌∙◌, ap}
 use Prim.Native.Nat.{ℕ, zero, suc, ◌+◌, ◌-◌, ◌*◌, ◌^◌, ◌≤◌, ◌<◌, max}
-use native.Mathlib.Decide.{dec_lt}
+use native.Mathlib.Decide.{dec_lt, ℕ_discrete}
 use native.Mathlib.Omega.{arith}
 use lib.ListN.{get_or, replicate, get_or-replicate, get_or-eq_default}
 use lib.Seq.{get_or-drop}
@@ -65,17 +65,42 @@ units_unknown k h a b c =
 pub units_of : (m : Node) → get_or units m.kind 0 ≡ part_units m
 units_of m = each-kind UnitsAt units-known units_unknown m.kind m.a m.b m.c
 
+-- the counts of kinds that one arm takes together
+or_else : (k j : ℕ) {n : ℕ} → get_or units j 0 ≡ n → ((k ≡ j → ⊥) → get_or units k 0 ≡ n) → get_or units k 0 ≡ n
+or_else k j here other = elim (ℕ_discrete k j) [ yes e ↦ rw e here | no n ↦ other n ]
+
+pub units_operation : (k : ℕ) → 6 ≤ k → k < 13 → get_or units k 0 ≡ 262656
+unfolding units
+units_operation k low high =
+    or_else k 6 refl (λ a. or_else k 7 refl (λ b. or_else k 8 refl (λ c.
+    or_else k 9 refl (λ d. or_else k 10 refl (λ e. or_else k 11 refl (λ f.
+    let last : k ≡ 12 = omega (arith, a, b, c, d, e, f) in rw last refl))))))
+
+pub units_read : (k : ℕ) → 4 ≤ k → k < 6 → get_or units k 0 ≡ 262144
+unfolding units
+units_read k low high = or_else k 4 refl (λ a. let last : k ≡ 5 = omega (arith, a) in rw last refl)
+
+pub units_few : (k : ℕ) → k < 4 → get_or units k 0 ≡ 0
+unfolding units
+units_few k few =
+    or_else k 0 refl (λ a. or_else k 1 refl (λ b. or_else k 2 refl (λ c.
+    let last : k ≡ 3 = omega (arith, a, b, c) in rw last refl)))
+
+pub units_none : (k : ℕ) → 13 ≤ k → (k ≡ 17 → ⊥) → (k ≡ 18 → ⊥) → (k ≡ 19 → ⊥) → (k ≡ 20 → ⊥)
+    → (k ≡ 22 → ⊥) → (k ≡ 24 → ⊥) → (k ≡ 25 → ⊥) → get_or units k 0 ≡ 0
+unfolding units
+units_none k low a b c d f g h =
+    or_else k 13 refl (λ i. or_else k 14 refl (λ j. or_else k 15 refl (λ l. or_else k 16 refl (λ m.
+    or_else k 21 refl (λ e. or_else k 23 refl (λ n. or_else k 26 refl (λ o.
+    units-past k (omega (arith, a, b, c, d, e, f, g, h, i, j, l, m, n, o)))))))))
+
 -- what is read of a node's word
 module _ (word kind : ℕ) (m : Node) (is : unpacked word ≡ m) (k : kind ≡ (unpacked word).kind) where
   pub read-packed : word ≡ packed m
   read-packed = sym (packed-unpacked word) ∙ ap packed is
 
-  pub read-kind : word < 2 ^ 32 → kind < 32
-  unfolding unpacked
-  read-kind l = omega (arith, k)
-
-  pub read-units : get_or units kind 0 ≡ part_units m
-  read-units = ap (λ n. get_or units n 0) (k ∙ ap (λ (x : Node). x.kind) is) ∙ units_of m
+  pub read-units : (one : ℕ) → ((a b c : ℕ) → one ≡ part_units (node kind a b c)) → one ≡ part_units m
+  read-units one counts = counts m.a m.b m.c ∙ ap (λ n. part_units (node n m.a m.b m.c)) (k ∙ ap (λ (x : Node). x.kind) is)
 
 -- the fields of a node, each moved or not: L less and N more in those that are parts
 fields_moved : (pa pb pc : Bool) (a b c L N : ℕ) → (pa ≡ true → L ≤ a) → (pb ≡ true → L ≤ b) → (pc ≡ true → L ≤ c) → (high : ℕ)

@@ -33,13 +33,7 @@ fn is_stub(both: &Both, p: usize) -> bool
 fn procedure_links(both: &Both, p: usize) -> bool
     ensures { result ≡ procedure_links (library_of both.now) (program_of both.now) p }
 {
-    if both.program.header.procedures <= p {
-        return false;
-    }
-    if both.library.header.procedures <= p {
-        return true;
-    }
-    is_stub(both, p)
+    p < both.program.header.procedures && (both.library.header.procedures <= p || is_stub(both, p))
 }
 
 fn first_unlinked(both: &Both) -> usize

@@ -1,8 +1,8 @@
 // The joined table's words. The library's are as they were; in the program's, the numbers of nodes are other ones, in the same bits.
-ghost use Rattle.std.specs.Prelude.{◌≡◌, ◌+◌, ◌*◌, ◌^◌, ◌≤◌, max, length};
+ghost use Rattle.std.specs.Prelude.{◌≡◌, ℕ, ◌+◌, ◌*◌, ◌^◌, ◌≤◌, max, length};
 ghost use Rattle.std.proofs.lemmas.List.Edits.{sets};
 ghost use Rattle.linker.specs.Given.{library_of, program_of, Joinable, nodes_of, bytes_of, moved_word, Movable};
-ghost use Rattle.linker.specs.Given.{bodies_behind, nodes_behind, moved_procedure, node_behind, moved_node};
+ghost use Rattle.linker.specs.Given.{bodies_behind, nodes_behind, part_units, moved_procedure, node_behind, moved_node};
 ghost use Rattle.linker.specs.Linking.{linked};
 ghost use Rattle.rules.specs.Encoding.{word_bytes, flag_bits, word_of, encode};
 ghost use Rattle.rules.specs.Table.{flagged};
@@ -11,6 +11,10 @@ ghost use Rattle.writer.specs.Written.{Begins};
 
 use crate::asking::joined_nodes;
 use crate::both::Both;
+use rules::kinds::{
+    ASSIGN, BOTH, BRANCH, BROADCAST, DIFFERENCE, DOOR, EQUAL, EXCHANGE, LATCH, LESS, LOOP, PRODUCT,
+    QUOTIENT, SEQUENCE, SLOT, SUM,
+};
 use table::words::{kind_of, word};
 use writer::{copy_words, put_word};
 
@@ -24,40 +28,20 @@ const C: u32 = 1;
 const BODY: u32 = 16777216;
 
 // What a 1 in each part counts, by kind.
-const PARTS: [u32; 32] = [
-    0, // 0 constant
-    0, // 1 variable
-    0, // 2 own number
-    0, // 3 number of processes
-    A, // 4 door A
-    A, // 5 slot A of an area
-    A + B, // 6 sum
-    A + B, // 7 difference
-    A + B, // 8 product
-    A + B, // 9 quotient
-    A + B, // 10 less
-    A + B, // 11 equal
-    A + B, // 12 both
-    0, // 13 unknown
-    0, // 14 unknown
-    0, // 15 unknown
-    0, // 16 nothing
-    B, // 17 a variable takes B
-    A + B, // 18 A, then B
-    A + B + C, // 19 if A then B, else C
-    A + B, // 20 while A, B
-    0, // 21 call
-    A + B, // 22 latch A takes B
-    0, // 23 barrier
-    B + C, // 24 broadcast of B from C
-    A, // 25 exchange of A
-    0, // 26 leave
-    0, // 27 to 31 unknown
-    0,
-    0,
-    0,
-    0,
-];
+fn part_unit(kind: u32) -> u32
+    ensures { (a b c : ℕ) → result ≡ part_units (record { kind = kind; a = a; b = b; c = c }) }
+{
+    match kind {
+        DOOR | SLOT | EXCHANGE => A,
+        SUM | DIFFERENCE | PRODUCT | QUOTIENT | LESS | EQUAL | BOTH => A + B,
+        ASSIGN => B,
+        SEQUENCE => A + B,
+        BRANCH => A + B + C,
+        LOOP | LATCH => A + B,
+        BROADCAST => B + C,
+        _ => 0,
+    }
+}
 
 fn moved(both: &Both, word: u32, one: u32) -> u32
     requires { Movable both.now one word }
@@ -115,10 +99,9 @@ fn write_nodes(both: &Both, out: &mut [u8])
     let stubs = both.library.header.procedures;
     let first = 2 + both.program.header.procedures + both.library.header.nodes;
     let count = both.program.header.nodes - stubs;
-    let parts = PARTS; // once: where it is indexed, a constant is built each time
     for k in 0..count {
         let node = both.program.packed_at(stubs + k);
-        let one = parts[kind_of(node) as usize];
+        let one = part_unit(kind_of(node));
         put_word(out, first + k, moved(both, node, one));
     }
 }

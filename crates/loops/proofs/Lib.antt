@@ -2,3 +2,4 @@
 pub mod BuiltLaws
 pub mod KindTests
 pub mod ClimbLaws
+pub mod RangeLaws

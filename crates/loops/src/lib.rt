@@ -57,10 +57,5 @@ pub fn has_leave(table: &Table) -> bool
     requires { Passing well_built table.now.bytes.now }
     ensures { result ≡ has_leave (decode table.now.bytes.now) }
 {
-    for n in 0..table.header.nodes {
-        if table.kind_at(n) == LEAVE {
-            return true;
-        }
-    }
-    false
+    (0..table.header.nodes).any(|n| table.kind_at(n) == LEAVE)
 }

@@ -37,8 +37,8 @@ fn lay_out(words: &mut [u32], given: &[u32], variables: usize, entry: u32)
     requires { (length words.old ≡ process_words) × (length given.now ≡ variables + doors) × (variables ≤ variable_places) }
     ensures { (i : ℕ) → i < process_words → get_or words.new i 0 ≡ laid_word variables entry given.now i }
 {
-    for i in 0..PROCESS_WORDS {
-        words[i] = laid_word(given, variables, entry, i);
+    for (i, word) in words.iter_mut().enumerate() {
+        *word = laid_word(given, variables, entry, i);
     }
 }
 

@@ -99,10 +99,7 @@ pub fn step(table: &[u8], state: &mut [u32], roll: &mut [u32], process: u32) -> 
 pub fn latches(state: &[u32], process: usize) -> &[u32]
     ensures { result.now ≡ latches_of state.now process }
 {
-    if state.len() % PROCESS_WORDS != 0 {
-        return &state[0..0];
-    }
-    if process >= state.len() / PROCESS_WORDS {
+    if state.len() % PROCESS_WORDS != 0 || process >= state.len() / PROCESS_WORDS {
         return &state[0..0];
     }
     let from = PROCESS_WORDS * process + LATCHES_AT;

@@ -83,12 +83,9 @@ fn lies_below(words: &[u32], w: usize) -> bool
         (depth words.now - 1)) }
 {
     let below = words[DEPTH_AT] as usize - 1;
-    for height in 0..below {
-        if words[STACK_AT + height] as usize == w {
-            return true;
-        }
-    }
-    false
+    words[STACK_AT..STACK_AT + below]
+        .iter()
+        .any(|&entry| entry as usize == w)
 }
 
 pub fn leave_on_top(table: &Table, words: &[u32]) -> bool
@@ -148,10 +145,7 @@ fn words_fit(table: &Table, words: &[u32], roll: &[u32], p: usize) -> bool
         × (arrival_size * p + 3 < length roll.now) }
     ensures { result ≡ words_fit (decode table.now.bytes.now) words.now roll.now p }
 {
-    if words[DEPTH_AT] > MOST_DEPTH {
-        return false;
-    }
-    if !stack_fits(table, words) {
+    if words[DEPTH_AT] > MOST_DEPTH || !stack_fits(table, words) {
         return false;
     }
     record_fits(table, words, roll, p)

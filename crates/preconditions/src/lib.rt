@@ -38,11 +38,8 @@ pub fn start_asked(
         then question20 processes state.now
         then question21 processes roll.now) }
 {
-    if processes < 1 {
-        return refused(18, 0);
-    }
     let count = processes as usize;
-    if count > MOST_PROCESSES {
+    if count < 1 || count > MOST_PROCESSES {
         return refused(18, 0);
     }
     let size = header(table).variables + DOOR_PLACES;
@@ -64,13 +61,7 @@ pub fn sizes_asked(state: &[u32], roll: &[u32]) -> Verdict
         then question20 (processes_in roll.now) state.now) }
 {
     let count = roll.len() / ARRIVAL_WORDS;
-    if roll.len() != ARRIVAL_WORDS * count {
-        return refused(21, 0);
-    }
-    if count < 1 {
-        return refused(21, 0);
-    }
-    if count > MOST_PROCESSES {
+    if roll.len() != ARRIVAL_WORDS * count || count < 1 || count > MOST_PROCESSES {
         return refused(21, 0);
     }
     if state.len() != PROCESS_WORDS * count {

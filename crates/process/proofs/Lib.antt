@@ -4,3 +4,4 @@ pub mod UnwindLaws
 pub mod StatementLaws
 pub mod AloneLaws
 pub mod LentLaws
+pub use Rattle.loops.proofs.RangeLaws

@@ -14,11 +14,11 @@ ghost use Rattle.records.specs.Roll.{roll_words, lent_records, loaded, saved};
 ghost use Rattle.records.specs.Held.{GivesTwo, ThroughWords, OnFirst};
 
 use collectives::arrivals::{read, write};
+use machine::team;
 use rules::layout::{ARRIVAL_WORDS, MOST_PROCESSES};
 use rules::{Arrival, Stepped, Verdict};
 use scheduler::Service;
 // A host sees a process's latches through the team.
-use machine::team;
 pub use machine::team::latches;
 
 // Of a roll of too many records, one more than the most is lent to the core.

@@ -13,12 +13,12 @@ pub fn accepted(rt: &impl Print) -> io::Result<()> {
 
 // "refused 15 3 (number, place)"
 pub fn refusal(rt: &impl Print, r: Refusal) -> io::Result<()> {
-    println!(rt; "refused {} {}", r.number, r.place)
+    println!(rt; "refused {r}")
 }
 
 // A refusal with the table that it is about.
 pub fn refusal_of(rt: &impl Print, r: Refusal, table: &str) -> io::Result<()> {
-    println!(rt; "refused {} {} {table}", r.number, r.place)
+    println!(rt; "refused {r} {table}")
 }
 
 // A table as it is.

@@ -43,8 +43,7 @@ fn take_turns(
         let bank = u32::from(turn);
         let after = records::step_on(table, state, records, processes, bank);
         records = after.roll;
-        let stepped = after.answer;
-        if !report_step(rt, bank, stepped)? {
+        if !report_step(rt, bank, after.answer)? {
             return Ok(());
         }
     }
@@ -75,11 +74,9 @@ fn run_lent(rt: &impl Print, input: &[u8], words: &mut [u32], state: &mut [u32])
         [running; MOST_PROCESSES],
         count,
     );
-    let answer = after.answer;
-    let roll = after.roll;
     let banks = turns(input);
-    match answer {
-        Ok(()) => take_turns(rt, table, &mut state[..state_end], roll, count, banks),
+    match after.answer {
+        Ok(()) => take_turns(rt, table, &mut state[..state_end], after.roll, count, banks),
         Err(refusal) => report::refusal(rt, refusal),
     }
 }

@@ -34,7 +34,7 @@ fn serve_started(
     let turns = word_behind(input, 2);
     let service = scheduler::serve(table, state, roll, last, turns);
     match service.answer {
-        Ok(()) => { report::served(rt, service.made, service.last, team_status(roll, count)) }
+        Ok(()) => report::served(rt, service.made, service.last, team_status(roll, count)),
         Err(refusal) => report::refusal(rt, refusal),
     }
 }

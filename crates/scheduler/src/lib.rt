@@ -78,19 +78,14 @@ fn first_left(
     match event {
         Event::Moved => {
             let words = process_at(state, p);
-            if !leave_on_top(table, words) {
-                return count;
+            if leave_on_top(table, words) && !leave_fits(table, words) {
+                p
+            } else {
+                count
             }
-            if leave_fits(table, words) {
-                return count;
-            }
-            p
         }
         Event::Completed(_) => first_unfit(table, state, roll, count),
-        Event::Finished => count,
-        Event::Arrived(_) => count,
-        Event::Waiting => count,
-        Event::Ended => count,
+        Event::Finished | Event::Arrived(_) | Event::Waiting | Event::Ended => count,
     }
 }
 

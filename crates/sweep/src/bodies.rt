@@ -82,7 +82,8 @@ fn flag_body(table: &Table, planes: &[u32], best: usize, p: usize) -> usize
 // The least refusal of 13 to 17 from that of 13 to 16.
 pub fn unflagged(table: &Table, planes: &[u32], rule: usize) -> usize
     requires { Filled table.now.bytes.now × (length planes.now ≡ all_planes) × (rule ≤ none) }
-    ensures { result ≡ min rule (least_below (effect_code (decode table.now.bytes.now) (facts_plane planes.now)) (procedures (decode table.now.bytes.now))) }
+    ensures { result ≡ min rule (least_below (effect_code (decode table.now.bytes.now) (facts_plane planes.now))
+        (procedures (decode table.now.bytes.now))) }
 {
     let mut best = rule;
     for p in 0..table.header.procedures {

@@ -56,7 +56,8 @@ pub struct Found {
 
 // Question 12 of a table that passes 2 to 11: the walk only where the bodies do not stand in order, or a call seems to go up.
 fn first_call(table: &Table, planes: &mut [u32], ordered: bool) -> usize
-    requires { Filled table.now.bytes.now × (length planes.old ≡ all_planes) × (ordered ≡ true → question12 (decode table.now.bytes.now) ≡ Accepted) }
+    requires { Filled table.now.bytes.now × (length planes.old ≡ all_planes)
+        × (ordered ≡ true → question12 (decode table.now.bytes.now) ≡ Accepted) }
     ensures { FirstCall (decode table.now.bytes.now) planes.old planes.new result }
 {
     if ordered {
@@ -68,7 +69,8 @@ fn first_call(table: &Table, planes: &mut [u32], ordered: bool) -> usize
 
 // Questions 12, 26 and 13 to 17 of a table that passes 2 to 11, the last five only if it is judged.
 fn ask_calls(table: &Table, planes: &mut [u32], judged: bool, found: Found) -> Verdict
-    requires filled { Filled table.now.bytes.now × (length planes.old ≡ all_planes) × (found.ordered ≡ true → question12 (decode table.now.bytes.now) ≡ Accepted) }
+    requires filled { Filled table.now.bytes.now × (length planes.old ≡ all_planes)
+        × (found.ordered ≡ true → question12 (decode table.now.bytes.now) ≡ Accepted) }
     requires kept_to { KeptTo (decode table.now.bytes.now) (nodes (decode table.now.bytes.now)) found.rule planes.old }
     ensures { result ≡ calls_asked judged (decode table.now.bytes.now) }
 {

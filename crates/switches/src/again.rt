@@ -71,7 +71,8 @@ pub(crate) fn pass_again(table: &Table, planes: &mut [u32], rule: usize) -> usiz
     requires passing { Passing well_formed table.now.bytes.now × Beside (decode table.now.bytes.now) planes.old × (rule ≤ none) }
     requires planes_value { (left_plane (work_planes planes.old) ≡ replicate plane_words 0) × (leaves_plane (work_planes planes.old) ≡ replicate plane_words 0) }
     ensures { Beside (decode table.now.bytes.now) planes.new
-        × LeavesPassed (decode table.now.bytes.now) (counted (decode table.now.bytes.now)) rule (work_planes planes.old) (work_planes planes.new) result }
+        × LeavesPassed (decode table.now.bytes.now) (counted (decode table.now.bytes.now)) rule
+        (work_planes planes.old) (work_planes planes.new) result }
 {
     if !has_leave(table) {
         return rule;

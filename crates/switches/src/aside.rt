@@ -23,7 +23,8 @@ fn set_both(aside: &mut [u32], x: u32, y: u32)
 
 // All statements that node n, which is set aside, has as parts.
 fn set_parts(table: &Table, aside: &mut [u32], n: usize)
-    requires { Passing well_formed table.now.bytes.now × (n < nodes (decode table.now.bytes.now)) × (length aside.old ≡ plane_words) }
+    requires { Passing well_formed table.now.bytes.now × (n < nodes (decode table.now.bytes.now))
+        × (length aside.old ≡ plane_words) }
     ensures { aside.new ≡ with_bits aside.old (inner_parts (statement_at (decode table.now.bytes.now) n)) }
 {
     let node = table.node_at(n);
@@ -44,8 +45,10 @@ fn not_taken(value: u32, first: u32, second: u32) -> u32
 
 // Of node n, if it is an if with a fixed condition, the branch that will never be taken.
 fn set_branch(table: &Table, aside: &mut [u32], n: usize)
-    requires { Passing well_formed table.now.bytes.now × (n < nodes (decode table.now.bytes.now)) × (length aside.old ≡ plane_words) }
-    ensures { aside.new ≡ with_bits aside.old (never_parts (decode table.now.bytes.now) (statement_at (decode table.now.bytes.now) n)) }
+    requires { Passing well_formed table.now.bytes.now × (n < nodes (decode table.now.bytes.now))
+        × (length aside.old ≡ plane_words) }
+    ensures { aside.new ≡ with_bits aside.old
+        (never_parts (decode table.now.bytes.now) (statement_at (decode table.now.bytes.now) n)) }
 {
     let node = table.node_at(n);
     if node.kind != BRANCH {
@@ -59,7 +62,8 @@ fn set_branch(table: &Table, aside: &mut [u32], n: usize)
 
 // Most nodes are expressions, and no kind below that of a sequence has a statement as a part.
 fn set_node(table: &Table, aside: &mut [u32], n: usize)
-    requires { Passing well_formed table.now.bytes.now × (n < nodes (decode table.now.bytes.now)) × (length aside.old ≡ plane_words) }
+    requires { Passing well_formed table.now.bytes.now × (n < nodes (decode table.now.bytes.now))
+        × (length aside.old ≡ plane_words) }
     ensures { aside.new ≡ aside_marks (decode table.now.bytes.now) n aside.old }
 {
     if table.kind_at(n) < SEQUENCE {

@@ -36,7 +36,7 @@ pub const FOUR_PLANES: usize = ASIDE + PLANE;
 fn by_rules(number: u32) -> bool
     ensures { result ≡ (leb 13 number && leb number 17) }
 {
-    13 <= number && number <= 17
+    matches!(number, 13..=17)
 }
 
 // Questions 13 to 17 of a table that passes 2 to 12 and 26, where the statements of dead branches are set aside.

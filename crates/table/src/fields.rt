@@ -6,7 +6,6 @@ ghost use Rattle.rules.specs.WellFormed.{expression_part, statement_part, node_f
 ghost use Rattle.table.specs.Roles.{roles_of, is_part, field_zero, field_fits};
 
 use crate::Table;
-use crate::shape::between;
 use crate::words::word;
 use rules::Node;
 use rules::kinds::{
@@ -17,7 +16,7 @@ use rules::kinds::{
 use rules::layout::GATHERED_AREAS;
 
 // What a field of a node stands for. Half of a constant may be any number.
-#[derive(Clone, Copy)]
+#[derive(Clone, Copy, Debug, PartialEq, Eq)]
 pub enum Role {
     Unnamed,
     Variable,
@@ -29,7 +28,7 @@ pub enum Role {
 }
 
 // The roles of the fields A, B, C of a kind.
-#[derive(Clone, Copy)]
+#[derive(Clone, Copy, Debug, PartialEq, Eq)]
 pub struct Roles {
     pub a: Role,
     pub b: Role,
@@ -76,17 +75,12 @@ pub fn field_zero(role: Role, value: u32) -> bool
 }
 
 // Question 8.
+#[tactic(auto, using(crate::proofs::RoleLaws::zero_law))]
 pub fn unnamed_zero(node: Node) -> bool
     ensures { result ≡ unnamed_zero node }
 {
     let roles = roles_of(node.kind);
-    if !field_zero(roles.a, node.a) {
-        return false;
-    }
-    if !field_zero(roles.b, node.b) {
-        return false;
-    }
-    field_zero(roles.c, node.c)
+    field_zero(roles.a, node.a) && field_zero(roles.b, node.b) && field_zero(roles.c, node.c)
 }
 
 impl Table<'_> {
@@ -95,10 +89,7 @@ impl Table<'_> {
         requires { p < self.now.header.procedures }
         ensures { result ≡ procedure_fits self.now.bytes.now p }
     {
-        if word(self.bytes, 2 + p) % 8388608 != 0 {
-            return false;
-        }
-        self.body(p) < self.header.nodes
+        word(self.bytes, 2 + p) % 8388608 == 0 && self.body(p) < self.header.nodes
     }
 
     pub fn is_expression(&self, n: usize) -> bool
@@ -108,56 +99,44 @@ impl Table<'_> {
         self.node_at(n).kind <= LAST_EXPRESSION
     }
 
+    #[tactic(auto, unfolding(rules::specs::WellFormed::is_statement))]
     pub fn is_statement(&self, n: usize) -> bool
         requires { n < self.now.header.nodes }
         ensures { result ≡ is_statement (decode self.now.bytes.now) n }
     {
-        between(
-            FIRST_STATEMENT as usize,
-            self.node_at(n).kind as usize,
-            LAST_STATEMENT as usize,
-        )
+        matches!(self.node_at(n).kind, FIRST_STATEMENT..=LAST_STATEMENT)
     }
 
     // The same of any number: a node past the last is no statement.
     pub fn names_statement(&self, n: usize) -> bool
         ensures { result ≡ is_statement (decode self.now.bytes.now) n }
     {
-        if self.header.nodes <= n {
-            return false;
-        }
-        self.is_statement(n)
+        n < self.header.nodes && self.is_statement(n)
     }
 
     // Question 7.
+    #[tactic(auto, unfolding(rules::specs::WellFormed::kind_known))]
     pub fn kind_known(&self, n: usize) -> bool
         requires { n < self.now.header.nodes }
         ensures { result ≡ kind_known (decode self.now.bytes.now) n }
     {
-        if self.is_expression(n) {
-            return true;
-        }
-        self.is_statement(n)
+        self.is_expression(n) || self.is_statement(n)
     }
 
+    #[tactic(auto, unfolding(rules::specs::WellFormed::expression_part))]
     fn expression_part(&self, n: usize, a: usize) -> bool
         requires { n < self.now.header.nodes }
         ensures { result ≡ expression_part (decode self.now.bytes.now) n a }
     {
-        if n <= a {
-            return false;
-        }
-        self.is_expression(a)
+        a < n && self.is_expression(a)
     }
 
+    #[tactic(auto, unfolding(rules::specs::WellFormed::statement_part))]
     fn statement_part(&self, n: usize, a: usize) -> bool
         requires { n < self.now.header.nodes }
         ensures { result ≡ statement_part (decode self.now.bytes.now) n a }
     {
-        if n <= a {
-            return false;
-        }
-        self.is_statement(a)
+        a < n && self.is_statement(a)
     }
 
     pub fn field_fits(&self, n: usize, role: Role, value: usize) -> bool
@@ -175,19 +154,16 @@ impl Table<'_> {
     }
 
     // Question 9.
+    #[tactic(auto, using(crate::proofs::RoleLaws::fits_law))]
     pub fn node_fits(&self, n: usize) -> bool
         requires { n < self.now.header.nodes }
         ensures { result ≡ node_fits (decode self.now.bytes.now) n }
     {
         let node = self.node_at(n);
         let roles = roles_of(node.kind);
-        if !self.field_fits(n, roles.a, node.a as usize) {
-            return false;
-        }
-        if !self.field_fits(n, roles.b, node.b as usize) {
-            return false;
-        }
-        self.field_fits(n, roles.c, node.c as usize)
+        self.field_fits(n, roles.a, node.a as usize)
+            && self.field_fits(n, roles.b, node.b as usize)
+            && self.field_fits(n, roles.c, node.c as usize)
     }
 
     // Question 10.

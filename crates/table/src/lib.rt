@@ -9,7 +9,7 @@ pub mod shape; // shape.rt: questions 2 to 5
 pub mod words; // words.rt: header, words, procedures and nodes out of bytes
 
 // The counts in word 0.
-#[derive(Clone, Copy)]
+#[derive(Clone, Copy, Debug, PartialEq, Eq)]
 pub struct Header {
     pub variables: usize,
     pub procedures: usize,

@@ -15,7 +15,7 @@ pub fn mark(marks: &mut [u32], n: usize)
     ensures { marks.new ≡ with_bit marks.old n }
 {
     let bit: u32 = 1 << (n % 32);
-    marks[n / 32] = marks[n / 32] | bit;
+    marks[n / 32] |= bit;
 }
 
 pub fn clear(marks: &mut [u32])

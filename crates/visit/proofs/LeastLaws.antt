@@ -1,5 +1,5 @@
 -- The order of questions is a minimum: one more place is the lesser of two refusals, and so is one question before others.
-use mathlib.Core.Bool.{Bool, true, false, not, ◌&&◌}
+use mathlib.Core.Bool.{Bool, true, false, not}
 use mathlib.Core.Logic.{⊎_elim}
 use mathlib.Core.Path.{◌≡◌, refl, sym, ◌∙◌}
 use Prim.Native.Nat.{ℕ, zero, suc, ◌+◌, ◌*◌, ◌/◌, ◌%◌, ◌≤◌, ◌<◌, min}
@@ -20,14 +20,6 @@ passed {r} e h = sym e ∙ not-false r h
 
 pub failed : {r t : Bool} → r ≡ t → not r ≡ true → t ≡ false
 failed {r} e h = sym e ∙ not-true r h
-
--- and of a row of tests, one that held first or one that failed
-
-pub held : {r s t : Bool} → s ≡ true → r ≡ t → r ≡ (s && t)
-held e h = rw e h
-
-pub ended : {s : Bool} (t : Bool) → s ≡ false → false ≡ (s && t)
-ended t e = rw e
 
 -- failures may be met in any order
 

@@ -36,7 +36,8 @@ fn note_field(marks: &mut [u32], best: usize, role: Role, value: usize) -> usize
 }
 
 fn note_parts(table: &Table, marks: &mut [u32], best: usize, n: usize) -> usize
-    requires { (n < table.now.header.nodes) × (length marks.old ≡ plane_words) × (node_fits (decode table.now.bytes.now) n ≡ true) }
+    requires { (n < table.now.header.nodes) × (length marks.old ≡ plane_words)
+        × (node_fits (decode table.now.bytes.now) n ≡ true) }
     ensures { (result ≡ repeated_code marks.old best (parts_at (decode table.now.bytes.now) n))
         × (marks.new ≡ with_bits marks.old (parts_at (decode table.now.bytes.now) n)) }
 {

@@ -14,7 +14,7 @@ use table::Table;
 use table::marks::{mark, marked};
 
 // Where a node's fact comes from.
-#[derive(Clone, Copy)]
+#[derive(Clone, Copy, Debug, PartialEq, Eq)]
 pub enum Source {
     Never,
     Always,
@@ -41,10 +41,7 @@ fn either(planes: &[u32], a: u32, b: u32) -> bool
     requires { length planes.now ≡ all_planes }
     ensures { result ≡ (bit_at (facts_plane planes.now) (a % 256) || bit_at (facts_plane planes.now) (b % 256)) }
 {
-    if fact(planes, a) {
-        return true;
-    }
-    fact(planes, b)
+    fact(planes, a) || fact(planes, b)
 }
 
 fn fact_from(table: &Table, planes: &[u32], node: Node, source: Source) -> bool
@@ -90,14 +87,12 @@ pub fn settled(
     ruled(local, question, visit.node)
 }
 
+#[tactic(auto, unfolding(crate::specs::Facts::ruled))]
 fn ruled(local: bool, question: usize, n: usize) -> usize
     requires { (question < 17) × (n < 256) }
     ensures { result ≡ ruled local question n }
 {
-    if question == UNRULED {
-        return NONE;
-    }
-    if local {
+    if question != UNRULED && local {
         return worse(NONE, question, n);
     }
     NONE

@@ -20,37 +20,25 @@ fn within(visit: Visit, role: Role, value: usize) -> bool
     }
 }
 
+#[tactic(auto, unfolding(crate::specs::Fields::field_free))]
 fn field_free(table: &Table, marks: &[u32], visit: Visit, role: Role, value: u32) -> bool
     requires { (visit.node < table.now.header.nodes) × (length marks.now ≡ plane_words) }
     ensures { result ≡ field_free (decode table.now.bytes.now) marks.now visit role value }
 {
-    if !field_zero(role, value) {
-        return false;
-    }
-    if !table.field_fits(visit.node, role, value as usize) {
-        return false;
-    }
-    if !within(visit, role, value as usize) {
-        return false;
-    }
-    if is_part(role) {
-        return !marked(marks, value as usize);
-    }
-    true
+    field_zero(role, value)
+        && table.field_fits(visit.node, role, value as usize)
+        && within(visit, role, value as usize)
+        && (!is_part(role) || !marked(marks, value as usize))
 }
 
+#[tactic(auto, unfolding(crate::specs::Fields::distinct))]
 fn distinct(r: Role, x: u32, s: Role, y: u32) -> bool
     ensures { result ≡ distinct r x s y }
 {
-    if !is_part(r) {
-        return true;
-    }
-    if !is_part(s) {
-        return true;
-    }
-    x != y
+    !is_part(r) || !is_part(s) || x != y
 }
 
+#[tactic(auto, unfolding(crate::specs::Fields::fields_free))]
 fn fields_free(
     table: &Table,
     marks: &[u32],
@@ -63,22 +51,12 @@ fn fields_free(
     requires { (visit.node < table.now.header.nodes) × (length marks.now ≡ plane_words) }
     ensures { result ≡ fields_free (decode table.now.bytes.now) marks.now visit node (three a b c) }
 {
-    if !field_free(table, marks, visit, a, node.a) {
-        return false;
-    }
-    if !field_free(table, marks, visit, b, node.b) {
-        return false;
-    }
-    if !field_free(table, marks, visit, c, node.c) {
-        return false;
-    }
-    if !distinct(a, node.a, b, node.b) {
-        return false;
-    }
-    if !distinct(a, node.a, c, node.c) {
-        return false;
-    }
-    distinct(b, node.b, c, node.c)
+    field_free(table, marks, visit, a, node.a)
+        && field_free(table, marks, visit, b, node.b)
+        && field_free(table, marks, visit, c, node.c)
+        && distinct(a, node.a, b, node.b)
+        && distinct(a, node.a, c, node.c)
+        && distinct(b, node.b, c, node.c)
 }
 
 fn take(marks: &mut [u32], role: Role, value: usize)

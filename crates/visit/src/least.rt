@@ -13,8 +13,7 @@ pub fn worse(best: usize, number: usize, place: usize) -> usize
     requires { (number < 65535) × (place < 65536) }
     ensures { result ≡ min best (code number place) }
 {
-    let found = number * 65536 + place;
-    if found < best { found } else { best }
+    best.min(number * 65536 + place)
 }
 
 // Most nodes have no refusal, and then nothing is compared.

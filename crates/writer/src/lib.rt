@@ -7,8 +7,6 @@ ghost use Rattle.rules.specs.Encoding.{word_bytes};
 ghost use Rattle.rules.specs.Table.{word_at};
 ghost use Rattle.rules.specs.WellFormed.{joined};
 
-use table::words::word;
-
 pub fn put_word(out: &mut [u8], i: usize, word: u32)
     requires { 4 * i + 3 < length out.old }
     ensures { out.new ≡ sets out.old (4 * i) (word_bytes word) }
@@ -23,7 +21,5 @@ pub fn copy_words(table: &[u8], from: usize, out: &mut [u8], to: usize, count: u
     ensures { out.new ≡ sets out.old (4 * to)
         (joined (λ k. word_bytes (word_at table.now (from + k))) count) }
 {
-    for k in 0..count {
-        put_word(out, to + k, word(table, from + k));
-    }
+    out[4 * to..4 * (to + count)].copy_from_slice(&table[4 * from..4 * (from + count)]);
 }

@@ -1,6 +1,5 @@
 -- `pass_leaves` meets its contract: nothing is noted, or both planes are cleared first.
 use mathlib.Core.Path.{sym, ◌∙◌}
-use native.Mathlib.Omega.{arith}
 use Rattle.table.proofs.PassingLaws.{built-formed}
 use Rattle.leaves.proofs.PassLaws.{none-noted, passed_none, passed-all, passed-cleared}
 use Rattle.visit.proofs.FactLaws.{whole}

@@ -1,6 +1,5 @@
 -- `pass_node` meets its contract: each kind by its law.
 use mathlib.Core.Path.{refl, sym, ◌∙◌}
-use native.Mathlib.Omega.{arith}
 use Rattle.table.proofs.PassingLaws.{built-formed}
 use Rattle.leaves.proofs.PassLaws.{pass_other, pass_leave, pass_loop, pass_sequence, pass_branch}
 use Rattle.leaves.proofs.pass_node.Goals as goal

@@ -1,34 +1,22 @@
--- `has_leave` meets its contract. The nodes passed are no leaves.
-use Rattle.rules.proofs.ChoiceLaws.{passed-more, all_true, all-false}
+-- `has_leave` meets its contract: its chain puts the test to each node.
+use Rattle.std.proofs.Common.{rules, tests, ◌≡◌, ◌≢◌, true, false, not, refl, ℕ, arith}
+use Rattle.std.proofs.lemmas.Iterator.{cases_from_any, YieldsList-from_range}
 use Rattle.rules.proofs.KindLaws.{leave_of, no-leave}
-use Rattle.rules.specs.Table.{decode, nodes, node_at, statement_at}
-use native.Mathlib.Omega.{arith}
-use mathlib.Core.Bool.{true, false}
-use mathlib.Core.Path.{◌≡◌, sym, ◌∙◌}
-use Rattle.loops.proofs.has_leave.Invariants.{stays}
+use Rattle.rules.specs.Table.{decode, node_at, statement_at, is_leave}
+use Rattle.loops.proofs.RangeLaws.{any_told}
 use Rattle.loops.proofs.has_leave.Goals as goal
 
-pub returns-then-kind_at-eq-LEAVE : goal.returns-then-kind_at-eq-LEAVE
-unfolding statement_at
-returns-then-kind_at-eq-LEAVE c =
-    let table = c.args.table.now.bytes.now in
-    let n = c.loop-n.n in
-    let found : stays table n ≡ false =
-    rw (leave_of (node_at (decode table) n) (sym c.kind_at.ensures ∙ c.if-kind_at-eq-LEAVE.true)) in
-    rw (all-false (stays table) (nodes (decode table)) n (omega (arith, c.args.table.now.sized.nodes-read)) found)
-
-pub loop-n-preserved : goal.loop-n-preserved
-unfolding statement_at
-loop-n-preserved c =
-    let table = c.args.table.now.bytes.now in
-    let n = c.loop-n.n in
-    let passes : stays table n ≡ true =
-    rw (no-leave (node_at (decode table) n) (λ e. c.if-kind_at-eq-LEAVE.false (c.kind_at.ensures ∙ e))) in
-    passed-more (stays table) n c.loop-n.invariant passes
-
 pub returns : goal.returns
+unfolding statement_at
 returns c =
     let table = c.args.table.now.bytes.now in
-    let end : c.loop-n.n ≡ nodes (decode table) =
-    omega (arith, c.args.table.now.sized.nodes-read) in
-    rw (all_true (stays table) (nodes (decode table)) (rw end at c.loop-n.invariant))
+    let n = c.args.table.now.header.nodes in
+    let stays = λ (p : ℕ). not (is_leave (statement_at (decode table) p)) in
+    let leaves : (p : ℕ) → (node_at (decode table) p).kind ≡ 26 → stays p ≡ false =
+    λ p e. rw (leave_of (node_at (decode table) p) e) in
+    let passes : (p : ℕ) → (node_at (decode table) p).kind ≢ 26 → stays p ≡ true =
+    λ p e. rw (no-leave (node_at (decode table) p) e) in
+    rw (← c.args.table.now.sized.nodes-read)
+    (any_told stays n _
+    (cases_from_any _ _ _ (λ p. stays p ≡ false) (λ p. stays p ≡ true) c.any.ensures.ran (YieldsList-from_range 0 n n refl (omega arith))
+    (λ p q k. leaves p (search (rules, tests))) (λ p q k. (search (rules, tests), passes p (search (rules, tests))))))

@@ -4,17 +4,11 @@ use Rattle.table.specs.Header.{header_of}
 use Rattle.rules.proofs.Formed.{formed, exact}
 use Rattle.rules.specs.Evaluation.{doors}
 use Rattle.rules.specs.Start.{start_size}
-use borrow.Author.Tests.{eq-eqb, ne_eqb, lt-leb, le-leb}
+use borrow.Author.Tests.{eq-eqb, ne_eqb, le-leb}
 use native.Mathlib.Omega.{arith}
 use Prim.Native.Nat.{◌+◌}
 use mathlib.Core.Path.{ap}
 use Rattle.preconditions.proofs.start_asked.Goals as goal
-
-pub returns-then-processes-lt1 : goal.returns-then-processes-lt1
-returns-then-processes-lt1 c = rw (lt-leb _ _ c.if-processes-lt1.true) c.refused.ensures
-
-pub returns-then-count-gt-MOST_PROCESSES : goal.returns-then-count-gt-MOST_PROCESSES
-returns-then-count-gt-MOST_PROCESSES c = rw (le-leb _ _ c.if-processes-lt1.false, lt-leb _ _ c.if-count-gt-MOST_PROCESSES.true) c.refused-then-count-gt-MOST_PROCESSES.ensures
 
 pub header-size-requires : goal.header-size-requires
 header-size-requires c =
@@ -44,7 +38,7 @@ pub returns-then-words-size : goal.returns-then-words-size
 unfolding start_size header_of
 returns-then-words-size c =
     rw (
-      le-leb _ _ c.if-processes-lt1.false,
+      le-leb _ _ c.if-count-lt1.false,
       le-leb _ _ c.if-count-gt-MOST_PROCESSES.false,
       ← ap (λ h. h.variables) c.header-size.ensures,
       ne_eqb _ _ c.if-words-size.true,
@@ -55,7 +49,7 @@ pub returns-then-state-count : goal.returns-then-state-count
 unfolding start_size header_of
 returns-then-state-count c =
     rw (
-      le-leb _ _ c.if-processes-lt1.false,
+      le-leb _ _ c.if-count-lt1.false,
       le-leb _ _ c.if-count-gt-MOST_PROCESSES.false,
       ← ap (λ h. h.variables) c.header-size.ensures,
       eq-eqb _ _ c.if-words-size.false,
@@ -67,7 +61,7 @@ pub returns-then-roll-count : goal.returns-then-roll-count
 unfolding start_size header_of
 returns-then-roll-count c =
     rw (
-      le-leb _ _ c.if-processes-lt1.false,
+      le-leb _ _ c.if-count-lt1.false,
       le-leb _ _ c.if-count-gt-MOST_PROCESSES.false,
       ← ap (λ h. h.variables) c.header-size.ensures,
       eq-eqb _ _ c.if-words-size.false,
@@ -80,7 +74,7 @@ pub returns : goal.returns
 unfolding start_size header_of
 returns c =
     rw (
-      le-leb _ _ c.if-processes-lt1.false,
+      le-leb _ _ c.if-count-lt1.false,
       le-leb _ _ c.if-count-gt-MOST_PROCESSES.false,
       ← ap (λ h. h.variables) c.header-size.ensures,
       eq-eqb _ _ c.if-words-size.false,

@@ -12,61 +12,40 @@ use Rattle.quick.proofs.VisitLaws.{leave-arm, word-arm, no_arm, other_as, other-
 use Rattle.quick.proofs.VisitLaws.{operation-kind, unnamed-kind}
 use Rattle.quick.proofs.quick.Goals as goal
 
-pub settled-requires-in-5 : goal.settled-requires-in-5
-settled-requires-in-5 c =
-    let given = c.requires.inside in
-    record { inside = (given.0, c.fields-used-in-5.ensures.size); question_bound = (omega arith, λ used called. uncalled refl called) }
+pub settled-requires-in-5-clause-question_bound : goal.settled-requires-in-5-clause-question_bound
+settled-requires-in-5-clause-question_bound c = (omega arith, λ used called. uncalled refl called)
 
-pub settled-requires-in-17 : goal.settled-requires-in-17
-settled-requires-in-17 c =
-    let given = c.requires.inside in
-    record { inside = (given.0, c.fields-used-in-17.ensures.size); question_bound = (omega arith, λ used called. uncalled refl called) }
+pub settled-requires-in-17-clause-question_bound : goal.settled-requires-in-17-clause-question_bound
+settled-requires-in-17-clause-question_bound c = (omega arith, λ used called. uncalled refl called)
 
-pub settled-requires-in-18 : goal.settled-requires-in-18
-settled-requires-in-18 c =
-    let given = c.requires.inside in
-    record { inside = (given.0, c.fields-used-in-18.ensures.size); question_bound = (omega arith, λ used called. uncalled refl called) }
+pub settled-requires-in-18-clause-question_bound : goal.settled-requires-in-18-clause-question_bound
+settled-requires-in-18-clause-question_bound c = (omega arith, λ used called. uncalled refl called)
 
-pub settled-requires-in-19 : goal.settled-requires-in-19
-settled-requires-in-19 c =
-    let given = c.requires.inside in
-    record { inside = (given.0, c.fields-used-in-19.ensures.size); question_bound = (omega arith, λ used called. uncalled refl called) }
+pub settled-requires-in-19-clause-question_bound : goal.settled-requires-in-19-clause-question_bound
+settled-requires-in-19-clause-question_bound c = (omega arith, λ used called. uncalled refl called)
 
-pub settled-requires-in-20 : goal.settled-requires-in-20
-settled-requires-in-20 c =
-    let given = c.requires.inside in
-    record { inside = (given.0, c.fields-used-in-20.ensures.size); question_bound = (omega arith, λ used called. uncalled refl called) }
+pub settled-requires-in-20-clause-question_bound : goal.settled-requires-in-20-clause-question_bound
+settled-requires-in-20-clause-question_bound c = (omega arith, λ used called. uncalled refl called)
 
-pub settled-requires-in-21 : goal.settled-requires-in-21
-settled-requires-in-21 c =
+pub settled-requires-in-21-clause-question_bound : goal.settled-requires-in-21-clause-question_bound
+settled-requires-in-21-clause-question_bound c =
     let fields = c.fields-used-in-21 in
-    let given = c.requires.inside in
-    record { inside = (given.0, fields.ensures.size); question_bound = (omega arith, λ used called. called-below c.args.table.now.sized fields.ensures used) }
+    (omega arith, λ used called. called-below c.args.table.now.sized fields.ensures used)
 
-pub settled-requires-in-22 : goal.settled-requires-in-22
-settled-requires-in-22 c =
-    let given = c.requires.inside in
-    record { inside = (given.0, c.fields-used-in-22.ensures.size); question_bound = (omega arith, λ used called. uncalled refl called) }
+pub settled-requires-in-22-clause-question_bound : goal.settled-requires-in-22-clause-question_bound
+settled-requires-in-22-clause-question_bound c = (omega arith, λ used called. uncalled refl called)
 
-pub settled-requires-in-24 : goal.settled-requires-in-24
-settled-requires-in-24 c =
-    let given = c.requires.inside in
-    record { inside = (given.0, c.fields-used-in-24.ensures.size); question_bound = (omega arith, λ used called. uncalled refl called) }
+pub settled-requires-in-24-clause-question_bound : goal.settled-requires-in-24-clause-question_bound
+settled-requires-in-24-clause-question_bound c = (omega arith, λ used called. uncalled refl called)
 
-pub settled-requires-in-25 : goal.settled-requires-in-25
-settled-requires-in-25 c =
-    let given = c.requires.inside in
-    record { inside = (given.0, c.fields-used-in-25.ensures.size); question_bound = (omega arith, λ used called. uncalled refl called) }
+pub settled-requires-in-25-clause-question_bound : goal.settled-requires-in-25-clause-question_bound
+settled-requires-in-25-clause-question_bound c = (omega arith, λ used called. uncalled refl called)
 
-pub settled-requires-in-26 : goal.settled-requires-in-26
-settled-requires-in-26 c =
-    let given = c.requires.inside in
-    record { inside = (given.0, c.note_leave.ensures.kept.size); question_bound = (omega arith, λ used called. uncalled refl called) }
+pub settled-requires-in-26-clause-question_bound : goal.settled-requires-in-26-clause-question_bound
+settled-requires-in-26-clause-question_bound c = (omega arith, λ used called. uncalled refl called)
 
-pub settled-requires-in-6 : goal.settled-requires-in-6
-settled-requires-in-6 c =
-    let given = c.requires.inside in
-    record { inside = (given.0, c.fields-used-in-6.ensures.size); question_bound = (omega arith, λ used called. uncalled refl called) }
+pub settled-requires-in-6-clause-question_bound : goal.settled-requires-in-6-clause-question_bound
+settled-requires-in-6-clause-question_bound c = (omega arith, λ used called. uncalled refl called)
 
 pub returns-in-0 : goal.returns-in-0
 returns-in-0 c =

@@ -1,9 +1,9 @@
 -- `ask_contents` meets its contract: 6 to 11 from the least refusal, and the rest where there is none.
 use mathlib.Core.Path.{◌∙◌}
-use Rattle.visit.proofs.PlaneLaws.{used-length, length_put_used}
+use Rattle.visit.proofs.PlaneLaws.{used-length}
 use Rattle.sweep.proofs.EndLaws.{swept_high}
 use Rattle.sweep.proofs.NodeLaws.{kept_put}
-use Rattle.sweep.proofs.FormedLaws.{fails, passes, passes-first, passes_on}
+use Rattle.sweep.proofs.FormedLaws.{passes-first}
 use Rattle.sweep.proofs.ask_contents.Goals as goal
 
 pub ask_calls-requires-clause-kept_to : goal.ask_calls-requires-clause-kept_to

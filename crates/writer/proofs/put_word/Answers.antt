@@ -1,11 +1,10 @@
 -- `put_word` meets its contract: the four bytes that the library makes of a word are the word's.
-use Rattle.std.proofs.Common.{◌≡◌, ◌∙◌, ap, ℕ, ◌+◌, ◌*◌, ◌-◌, ◌/◌, ◌^◌, ◌<◌, ◌≤◌, List, length, append_assoc, arith, w32}
+use Rattle.std.proofs.Common.{◌≡◌, ◌∙◌, ap, ℕ, ◌+◌, ◌*◌, ◌-◌, ◌/◌, ◌^◌, ◌<◌, arith, w32}
 use Rattle.std.proofs.Math.Nat.{mod-eq_of_lt}
 use Rattle.std.specs.Int.{to_be_bytes}
-use Rattle.std.proofs.lemmas.List.{drop-drop}
-use Rattle.std.proofs.lemmas.List.Edits.{sets, sets-eq}
-use borrow.Rule.Slice.PartMut.{put_mid}
+use Rattle.std.proofs.lemmas.List.Edits.{sets}
 use Rattle.rules.specs.Encoding.{word_bytes}
+use Rattle.writer.proofs.WordLaws.{put_sets}
 use Rattle.writer.proofs.put_word.Goals as goal
 
 bytes_of_word : (w : ℕ) → w < 2 ^ 32 → to_be_bytes w32 w ≡ word_bytes w
@@ -13,10 +12,6 @@ unfolding word_bytes
 bytes_of_word w l =
     let high : w / 16777216 < 256 = omega arith in
     simp (mod-eq_of_lt high)
-
-put_sets : (i k : ℕ) (bytes put : List ℕ) → length put ≡ k → i + k ≤ length bytes → put_mid i k bytes put ≡ sets bytes i put
-put_sets i k bytes put size fits =
-    rw (drop-drop, ← size, sets-eq put bytes i (omega arith), append_assoc)
 
 pub returns : goal.returns
 returns c =

@@ -5,15 +5,17 @@ use borrow.Author.Tests.{eq-eqb, ne_eqb, lt-ltb, le-ltb}
 use native.Mathlib.Omega.{arith}
 use Prim.Native.Nat.{◌+◌, ◌-◌, ◌*◌}
 use mathlib.Core.Path.{◌≡◌}
+use Rattle.machine.proofs.team.latches.Goals.{then-state-ne0-via-then-state-ne0, then-state-ne0-via-else-state-ne0+then-process-state}
 use Rattle.machine.proofs.team.latches.Goals as goal
 
 pub returns-then-state-ne0 : goal.returns-then-state-ne0
 unfolding latches_of
-returns-then-state-ne0 c = rw (ne_eqb _ _ c.if-state-ne0.true)
-
-pub returns-then-process-state : goal.returns-then-process-state
-unfolding latches_of
-returns-then-process-state c = rw (eq-eqb _ _ c.if-state-ne0.false, le-ltb _ _ c.if-process-state.true)
+returns-then-state-ne0 c =
+    elim c.then-state-ne0.branch [
+      | then-state-ne0-via-then-state-ne0 w ↦ rw (ne_eqb _ _ w.if-state-ne0.true)
+      | then-state-ne0-via-else-state-ne0+then-process-state w ↦
+          rw (eq-eqb _ _ w.if-state-ne0.false, le-ltb _ _ w.if-process-state.true)
+    ]
 
 pub returns : goal.returns
 unfolding latches_of

@@ -1,6 +1,6 @@
 -- `nodes::sweep_rest` meets its contract. The loop's invariant: the nodes so far are swept, and something fails at the next.
 use native.Mathlib.Omega.{arith}
-use Rattle.sweep.proofs.NodeLaws.{resting_none, resting_more, resting_ends}
+use Rattle.sweep.proofs.NodeLaws.{resting_none, resting_more}
 use Rattle.sweep.proofs.nodes.sweep_rest.Goals as goal
 
 pub loop-reached-init : goal.loop-reached-init

@@ -1,8 +1,0 @@
--- `Table::body` meets its contract: the word divided as the definition says.
-use Rattle.rules.specs.Table.{decode, procedures, body, procedure_word}
-use borrow.Author.Tests.{lt-ltb}
-use Rattle.table.proofs.Table.body.Goals as goal
-
-pub returns : goal.returns
-unfolding decode procedures body procedure_word
-returns c = simp (c.word.ensures, lt-ltb _ _ (rw c.args.self.now.sized.procedures-read at c.requires))
