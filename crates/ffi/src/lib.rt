@@ -175,7 +175,7 @@ pub extern "C" fn fc_serve(
     FcServe::from(serve(table, state, roll, last, turns))
 }
 
-// The latches of one process, as many as fit. How many were copied.
+// The latches of one process, as many as fit. How many were copied. One by one, since a host need not have memmove.
 #[unsafe(no_mangle)]
 pub extern "C" fn fc_latches(state: &[u32], process: u32, out: &mut [u32]) -> u32
     ensures { (result ≡ copied_count (latches_of state.now process) out.old)
@@ -183,7 +183,9 @@ pub extern "C" fn fc_latches(state: &[u32], process: u32, out: &mut [u32]) -> u3
 {
     let latches = team::latches(state, process as usize);
     let n = latches.len().min(out.len());
-    out[..n].copy_from_slice(&latches[..n]);
+    for (i, place) in out[..n].iter_mut().enumerate() {
+        *place = latches[i];
+    }
     n as u32
 }
 

@@ -8,26 +8,30 @@ use native.Mathlib.Omega.{arith}
 use lib.ListN.{get_or, replicate, get_or-replicate, get_or-eq_default}
 use lib.Seq.{get_or-drop}
 use Rattle.linker.specs.declared.both.Both.{Both}
-use Rattle.linker.specs.Linking.{part_at, joined_nodes, joined_bytes, renumbered, renamed, linked}
-use Rattle.linker.specs.Given.{library_of, program_of, Joinable, bodies_behind, nodes_behind, nodes_of, bytes_of, Movable}
-use Rattle.linker.specs.Given.{body_unit, part_units, procedure_behind, moved_procedure, node_behind, moved_node}
+use Rattle.linker.specs.Linking.{Joined, part_at, joined_nodes, joined_bytes, renumbered, renamed, linked, joinable}
+use Rattle.linker.specs.Given.{Joinable, moved_by, MovableBy, body_unit, part_units}
 use Rattle.linker.proofs.LinkFormed.{linked-fit}
-use Rattle.linker.proofs.LinkLaws.{Links, links, link-procedures, link-nodes, stubs-below, part-high, body-high}
+use Rattle.linker.proofs.LinkLaws.{Links, both_formed, links, link-procedures, link-nodes, stubs-below, part-high, body-high}
 use Rattle.linker.proofs.LinkLaws.{flagged_library, flagged-own, flagged-program, flag_library, flag_own}
 use Rattle.linker.proofs.LinkLaws.{body_library, body-program, node_library, node-behind}
 use Rattle.linker.proofs.RenameLaws.{node_parts, named, unknown_part}
 use Rattle.rules.specs.declared.Node.{Node}
+use Rattle.rules.specs.Answers.{Accepted}
 use Rattle.rules.specs.Encoding.{header_word, flag_bits, body_word, packed, word_of}
 use Rattle.rules.specs.Evaluation.{bit}
-use Rattle.rules.specs.Table.{Program, word_at, variables, procedures, nodes, flagged, body, effect_flag}
+use Rattle.rules.specs.Table.{Program, decode, word_at, variables, procedures, nodes, flagged, body, effect_flag}
 use Rattle.rules.specs.Table.{unpacked, node_at, expression_of, statement_of, expression_at, statement_at}
-use Rattle.rules.specs.WellFormed.{most_table_bytes, parts_at}
+use Rattle.rules.specs.WellFormed.{most_table_bytes, parts_at, well_formed}
 use Rattle.rules.proofs.AnywhereLaws.{In}
 use Rattle.rules.proofs.EncodingLaws.{bit-low, word_of-procedure, word_of-node}
 use Rattle.rules.proofs.Formed.{well-passes}
 use Rattle.rules.proofs.ReencodingLaws.{packed-unpacked, word_1, word-procedure, word-node}
+use Rattle.table.specs.declared.Header.{Header}
+use Rattle.table.specs.Header.{header_of}
 use Rattle.table.specs.Sized.{Sized}
+use Rattle.table.proofs.PassingLaws.{read-shaped}
 use Rattle.table.proofs.RoleLaws.{listed, Each, none, ◌also◌, each-kind, node}
+use Rattle.table.proofs.ShapeLaws.{sized}
 
 -- what a 1 in each part counts, by kind
 unfoldable pub units : List ℕ
@@ -146,123 +150,140 @@ unfolding flag_bits
 flags-same first second same zero = refl
 flags-same first second same (suc n) = simp (flags-same first second same n, same n)
 
-module _ (both : Both) (j : Joinable both) where
+-- two tables' bytes that pass 27 to 29 as well, and the headers read off them
+pub record Joining (library program : List ℕ) (own its : Header) : Type 0 where
+  pub passed : joinable library program ≡ Joined
+  pub headed_library : own ≡ header_of library
+  pub headed-program : its ≡ header_of program
+
+pub joining : (both : Both) → Joinable both
+    → Joining both.library.bytes.now both.program.bytes.now both.library.header both.program.header
+joining both j =
+    record { passed = j; headed_library = both.library.sized.read; headed-program = both.program.sized.read }
+
+module _ {library program : List ℕ} {own its : Header} (j : Joining library program own its) where
   abbrev J : Program
-  J = linked (library_of both) (program_of both)
+  J = linked (decode library) (decode program)
 
-  pub linked_up : Links (library_of both) (program_of both)
-  linked_up = links both.library.bytes.now both.program.bytes.now j
+  pub linked_up : Links (decode library) (decode program)
+  linked_up = links library program j.passed
 
-  own : Sized both.library.bytes.now both.library.header
-  own = both.library.sized
+  own-formed : well_formed library ≡ Accepted
+  own-formed = (both_formed library program j.passed).0
 
-  its : Sized both.program.bytes.now both.program.header
-  its = both.program.sized
+  its_formed : well_formed program ≡ Accepted
+  its_formed = (both_formed library program j.passed).1
+
+  first : Sized library own
+  first = rw j.headed_library (sized library (read-shaped (record { passed = own-formed })))
+
+  second : Sized program its
+  second = rw j.headed-program (sized program (read-shaped (record { passed = its_formed })))
 
   -- the program has a procedure and a node for each stub
-  pub procedures-there : both.library.header.procedures ≤ both.program.header.procedures
-  procedures-there = omega (arith, own.procedures-read, its.procedures-read, linked_up.left)
+  pub procedures-there : own.procedures ≤ its.procedures
+  procedures-there = omega (arith, first.procedures-read, second.procedures-read, linked_up.left)
 
-  pub nodes-there : both.library.header.procedures ≤ both.program.header.nodes
-  nodes-there = omega (arith, own.procedures-read, its.nodes-read, stubs-below linked_up)
+  pub nodes-there : own.procedures ≤ its.nodes
+  nodes-there = omega (arith, first.procedures-read, second.nodes-read, stubs-below linked_up)
 
-  pub counted : 2 + both.program.header.procedures + both.library.header.nodes + nodes_behind both
-      ≡ 2 + procedures (linked (library_of both) (program_of both)) + nodes (linked (library_of both) (program_of both))
+  pub counted : 2 + its.procedures + own.nodes + (its.nodes - own.procedures)
+      ≡ 2 + procedures (linked (decode library) (decode program)) + nodes (linked (decode library) (decode program))
   counted =
       omega (
         arith,
         link-procedures linked_up,
         link-nodes linked_up,
-        own.procedures-read,
-        own.nodes-read,
-        its.procedures-read,
-        its.nodes-read,
+        first.procedures-read,
+        first.nodes-read,
+        second.procedures-read,
+        second.nodes-read,
       )
 
   -- word 0 and word 1
 
-  pub header-joined : word_of (linked (library_of both) (program_of both)) 0
-      ≡ 2 ^ 28 + max both.library.header.variables both.program.header.variables * 2 ^ 22
-      + both.program.header.procedures * 2 ^ 17 + nodes_of both * 2 ^ 8
+  pub header-joined : word_of (linked (decode library) (decode program)) 0
+      ≡ 2 ^ 28 + max own.variables its.variables * 2 ^ 22
+      + its.procedures * 2 ^ 17 + (own.nodes + (its.nodes - own.procedures)) * 2 ^ 8
   unfolding word_of header_word variables procedures nodes linked joined_nodes
   header-joined =
       rw (
-        own.variables-read,
-        its.variables-read,
-        own.procedures-read,
-        own.nodes-read,
-        its.procedures-read,
-        its.nodes-read,
+        first.variables-read,
+        second.variables-read,
+        first.procedures-read,
+        first.nodes-read,
+        second.procedures-read,
+        second.nodes-read,
       )
 
-  pub flags-program : both.library.header.variables < both.program.header.variables → word_at both.program.bytes.now 1 < 2 ^ 32
-      → flag_bits (flagged (linked (library_of both) (program_of both))) 32 ≡ word_at both.program.bytes.now 1
+  pub flags-program : own.variables < its.variables → word_at program 1 < 2 ^ 32
+      → flag_bits (flagged (linked (decode library) (decode program))) 32 ≡ word_at program 1
   flags-program l fits =
-      flags-same (flagged J) (flagged (program_of both))
-      (λ v. elim (dec_lt v (variables (program_of both))) [
+      flags-same (flagged J) (flagged (decode program))
+      (λ v. elim (dec_lt v (variables (decode program))) [
         | yes b ↦ flagged-program linked_up v b
-        | no m ↦ flagged-own linked_up v (omega (arith, own.variables-read, its.variables-read))
+        | no m ↦ flagged-own linked_up v (omega (arith, first.variables-read, second.variables-read))
       ])
       32
-      ∙ word_1 both.program.bytes.now (well-passes both.program.bytes.now both.program_formed) fits
+      ∙ word_1 program (well-passes program its_formed) fits
 
-  pub flags_library : both.program.header.variables ≤ both.library.header.variables → word_at both.library.bytes.now 1 < 2 ^ 32
-      → flag_bits (flagged (linked (library_of both) (program_of both))) 32 ≡ word_at both.library.bytes.now 1
+  pub flags_library : its.variables ≤ own.variables → word_at library 1 < 2 ^ 32
+      → flag_bits (flagged (linked (decode library) (decode program))) 32 ≡ word_at library 1
   flags_library h fits =
-      flags-same (flagged J) (flagged (library_of both))
-      (λ v. elim (dec_lt v (variables (library_of both))) [
+      flags-same (flagged J) (flagged (decode library))
+      (λ v. elim (dec_lt v (variables (decode library))) [
         | yes b ↦ flagged_library linked_up v b
         | no m ↦
             flagged-own linked_up v (omega arith)
-            ∙ (linked_up.of_program.bounds.flags_off v (omega (arith, own.variables-read, its.variables-read))
+            ∙ (linked_up.of_program.bounds.flags_off v (omega (arith, first.variables-read, second.variables-read))
             ∙ sym (linked_up.of_library.bounds.flags_off v (omega arith)))
       ])
       32
-      ∙ word_1 both.library.bytes.now (well-passes both.library.bytes.now both.library_formed) fits
+      ∙ word_1 library (well-passes library own-formed) fits
 
   -- procedures
 
-  pub procedure-kept : (p : ℕ) → p < both.library.header.procedures
-      → word_at both.library.bytes.now (2 + p) ≡ word_of (linked (library_of both) (program_of both)) (2 + p)
+  pub procedure-kept : (p : ℕ) → p < own.procedures
+      → word_at library (2 + p) ≡ word_of (linked (decode library) (decode program)) (2 + p)
   procedure-kept p l =
-      let here : p < procedures (library_of both) = omega (arith, own.procedures-read) in
+      let here : p < procedures (decode library) = omega (arith, first.procedures-read) in
       sym
       (word_of-procedure J p (omega (arith, link-procedures linked_up, linked_up.left))
       ∙ (ap (λ b. body_word b (effect_flag J p)) (body_library linked_up p here)
-      ∙ (ap (body_word (body (library_of both) p)) (flag_library linked_up p here)
-      ∙ word-procedure both.library.bytes.now (well-passes both.library.bytes.now both.library_formed) p here)))
+      ∙ (ap (body_word (body (decode library) p)) (flag_library linked_up p here)
+      ∙ word-procedure library (well-passes library own-formed) p here)))
 
-  module _ (k : ℕ) (l : k < bodies_behind both) where
+  module _ (k : ℕ) (l : k < its.procedures - own.procedures) where
     abbrev p : ℕ
-    p = both.library.header.procedures + k
+    p = own.procedures + k
 
-    other : procedures (library_of both) ≤ p
-    other = omega (arith, own.procedures-read)
+    other : procedures (decode library) ≤ p
+    other = omega (arith, first.procedures-read)
 
-    there : p < procedures (program_of both)
-    there = omega (arith, its.procedures-read)
+    there : p < procedures (decode program)
+    there = omega (arith, second.procedures-read)
 
-    its_word : procedure_behind both k
-        ≡ body (program_of both) p * 2 ^ 24 + bit (effect_flag (program_of both) p) * 2 ^ 23
+    its_word : word_at program (2 + own.procedures + k)
+        ≡ body (decode program) p * 2 ^ 24 + bit (effect_flag (decode program) p) * 2 ^ 23
     unfolding body_word
     its_word =
-        let place : 2 + both.library.header.procedures + k ≡ 2 + p = omega arith in
-        rw place (sym (word-procedure both.program.bytes.now (well-passes both.program.bytes.now both.program_formed) p there))
+        let place : 2 + own.procedures + k ≡ 2 + p = omega arith in
+        rw place (sym (word-procedure program (well-passes program its_formed) p there))
 
-    moves : (body_word (body J p) (effect_flag J p) ≡ moved_procedure both k)
-        × (both.library.header.procedures * body_unit ≤ procedure_behind both k)
+    moves : (body_word (body J p) (effect_flag J p) ≡ moved_by own body_unit (word_at program (2 + own.procedures + k)))
+        × (own.procedures * body_unit ≤ word_at program (2 + own.procedures + k))
     unfolding body_word
     moves =
         rw (body-program linked_up p other there, flag_own linked_up p other, its_word)
-        (body-moved (library_of both) (program_of both) _ _ own.procedures-read own.nodes-read
-        (body (program_of both) p) (bit (effect_flag (program_of both) p) * 2 ^ 23) (body-high linked_up p other there))
+        (body-moved (decode library) (decode program) _ _ first.procedures-read first.nodes-read
+        (body (decode program) p) (bit (effect_flag (decode program) p) * 2 ^ 23) (body-high linked_up p other there))
 
-    pub procedure-moved : moved_procedure both k
-        ≡ word_of (linked (library_of both) (program_of both)) (2 + both.library.header.procedures + k)
+    pub procedure-moved : moved_by own body_unit (word_at program (2 + own.procedures + k))
+        ≡ word_of (linked (decode library) (decode program)) (2 + own.procedures + k)
     procedure-moved =
         sym (word_of-procedure J p (omega (arith, link-procedures linked_up, there)) ∙ moves.0) ∙ ap (word_of J) (omega arith)
 
-    pub procedure_movable : Movable both body_unit (procedure_behind both k)
+    pub procedure_movable : MovableBy own body_unit (word_at program (2 + own.procedures + k))
     unfolding body_word
     procedure_movable =
         let below = (linked-fit linked_up).bodies-fit p (omega (arith, link-procedures linked_up, there)) in
@@ -270,58 +291,60 @@ module _ (both : Both) (j : Joinable both) where
 
   -- nodes
 
-  pub node_kept : (n : ℕ) → n < both.library.header.nodes
-      → word_at both.library.bytes.now (2 + both.library.header.procedures + n)
-      ≡ word_of (linked (library_of both) (program_of both)) (2 + both.program.header.procedures + n)
+  pub node_kept : (n : ℕ) → n < own.nodes
+      → word_at library (2 + own.procedures + n)
+      ≡ word_of (linked (decode library) (decode program)) (2 + its.procedures + n)
   node_kept n l =
-      rw (own.procedures-read, its.procedures-read, ← link-procedures linked_up)
+      rw (first.procedures-read, second.procedures-read, ← link-procedures linked_up)
       (sym
       (word_of-node J n
-      ∙ (ap packed (node_library linked_up n (omega (arith, own.nodes-read))) ∙ word-node both.library.bytes.now n)))
+      ∙ (ap packed (node_library linked_up n (omega (arith, first.nodes-read))) ∙ word-node library n)))
 
-  module _ (k : ℕ) (l : k < nodes_behind both) where
+  module _ (k : ℕ) (l : k < its.nodes - own.procedures) where
     abbrev m : Node
-    m = node_behind both k
+    m = node_at (decode program) (own.procedures + k)
 
-    new : node_at J (both.library.header.nodes + k) ≡ renamed (renumbered (library_of both) (program_of both)) m
+    new : node_at J (own.nodes + k) ≡ renamed (renumbered (decode library) (decode program)) m
     new =
-        let back : procedures (library_of both) + (both.library.header.nodes + k - nodes (library_of both))
-        ≡ both.library.header.procedures + k =
-        omega (arith, own.nodes-read, own.procedures-read) in
-        node-behind linked_up (both.library.header.nodes + k) (omega (arith, own.nodes-read))
-        ∙ ap (λ n. renamed (renumbered (library_of both) (program_of both)) (node_at (program_of both) n)) back
+        let back : procedures (decode library) + (own.nodes + k - nodes (decode library))
+        ≡ own.procedures + k =
+        omega (arith, first.nodes-read, first.procedures-read) in
+        node-behind linked_up (own.nodes + k) (omega (arith, first.nodes-read))
+        ∙ ap (λ n. renamed (renumbered (decode library) (decode program)) (node_at (decode program) n)) back
 
-    moved : (packed (renamed (renumbered (library_of both) (program_of both)) m) ≡ moved_node both m)
-        × (both.library.header.procedures * part_units m ≤ packed m)
+    moved : (packed (renamed (renumbered (decode library) (decode program)) m) ≡ moved_by own (part_units m) (packed m))
+        × (own.procedures * part_units m ≤ packed m)
     unfolding parts_at expression_at statement_at
     moved =
-        node-moved (library_of both) (program_of both) _ _ own.procedures-read own.nodes-read m
-        (part-high linked_up (both.library.header.procedures + k))
+        node-moved (decode library) (decode program) _ _ first.procedures-read first.nodes-read m
+        (part-high linked_up (own.procedures + k))
 
-    pub node-moves : moved_node both (node_behind both k)
-        ≡ word_of (linked (library_of both) (program_of both))
-        (2 + both.program.header.procedures + both.library.header.nodes + k)
+    pub node-moves : moved_by own (part_units (node_at (decode program) (own.procedures + k)))
+        (packed (node_at (decode program) (own.procedures + k)))
+        ≡ word_of (linked (decode library) (decode program)) (2 + its.procedures + own.nodes + k)
     node-moves =
-        sym (word_of-node J (both.library.header.nodes + k) ∙ (ap packed new ∙ moved.0))
-        ∙ ap (word_of J) (omega (arith, its.procedures-read, link-procedures linked_up))
+        sym (word_of-node J (own.nodes + k) ∙ (ap packed new ∙ moved.0))
+        ∙ ap (word_of J) (omega (arith, second.procedures-read, link-procedures linked_up))
 
-    pub node_movable : Movable both (part_units (node_behind both k)) (packed (node_behind both k))
+    pub node_movable : MovableBy own (part_units (node_at (decode program) (own.procedures + k)))
+        (packed (node_at (decode program) (own.procedures + k)))
     unfolding packed
     node_movable =
-        let n = both.library.header.nodes + k in
-        let here : n < nodes J = omega (arith, link-nodes linked_up, own.nodes-read, its.nodes-read, own.procedures-read) in
+        let n = own.nodes + k in
+        let here : n < nodes J = omega (arith, link-nodes linked_up, first.nodes-read, second.nodes-read, first.procedures-read) in
         let kind = (linked-fit linked_up).kinds_fit n here in
         let fields = (linked-fit linked_up).fields_fit n here in
-        let whole : packed (node_at J n) ≡ moved_node both m = ap packed new ∙ moved.0 in
+        let whole : packed (node_at J n) ≡ moved_by own (part_units m) (packed m) = ap packed new ∙ moved.0 in
         (moved.1, omega (arith, whole, kind, fields.0, fields.1, fields.2))
 
   -- the length
 
-  pub bytes-joined : bytes_of both ≡ joined_bytes (library_of both) (program_of both)
+  pub bytes-joined : 4 * (2 + its.procedures + (own.nodes + (its.nodes - own.procedures)))
+      ≡ joined_bytes (decode library) (decode program)
   unfolding joined_nodes
-  bytes-joined = rw (own.procedures-read, own.nodes-read, its.procedures-read, its.nodes-read)
+  bytes-joined = rw (first.procedures-read, first.nodes-read, second.procedures-read, second.nodes-read)
 
-  pub bytes-few : bytes_of both ≤ most_table_bytes
+  pub bytes-few : 4 * (2 + its.procedures + (own.nodes + (its.nodes - own.procedures))) ≤ most_table_bytes
   unfolding joined_nodes
   bytes-few =
       let nodes-most = linked_up.few in

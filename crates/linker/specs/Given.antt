@@ -6,6 +6,7 @@ use Rattle.rules.specs.declared.Node.{Node}
 use Rattle.rules.specs.Encoding.{packed}
 use Rattle.rules.specs.Evaluation.{bit}
 use Rattle.rules.specs.Table.{Program, decode, word_at, node_at}
+use Rattle.table.specs.declared.Header.{Header}
 
 -- what the two tables say
 abbrev pub library_of : Both → Program
@@ -33,12 +34,18 @@ abbrev pub bytes_of : Both → ℕ
 bytes_of both = 4 * (2 + both.program.header.procedures + nodes_of both)
 
 -- a word whose nodes are renumbered, of which a 1 counts `one` in the word: L less, and the library's nodes more
+abbrev pub moved_by : Header → ℕ → ℕ → ℕ
+moved_by library one word = word - library.procedures * one + library.nodes * one
+
 abbrev pub moved_word : Both → ℕ → ℕ → ℕ
-moved_word both one word = word - both.library.header.procedures * one + both.library.header.nodes * one
+moved_word both = moved_by both.library.header
 
 -- its nodes are no stubs, and stay in their bits
+abbrev pub MovableBy : Header → ℕ → ℕ → Type 0
+MovableBy library one word = (library.procedures * one ≤ word) × (moved_by library one word < 2 ^ 32)
+
 abbrev pub Movable : Both → ℕ → ℕ → Type 0
-Movable both one word = (both.library.header.procedures * one ≤ word) × (moved_word both one word < 2 ^ 32)
+Movable both = MovableBy both.library.header
 
 -- what a 1 of its body counts in a procedure's word, and a 1 of each of its parts in a node's
 abbrev pub body_unit : ℕ

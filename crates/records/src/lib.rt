@@ -162,7 +162,7 @@ pub fn step_on(
         result.answer state.new (roll_words (take count result.roll))
         × (drop count result.roll ≡ drop count roll) }
 {
-    on_first(state, roll, count, |state, lent| {
-        step(table, state, lent, process)
+    on_first(state, roll, count, |state, first| {
+        step(table, state, first, process)
     })
 }

@@ -1,17 +1,16 @@
 -- Words written one behind the other, and bytes that begin with them.
 use mathlib.Core.List.{List, [], ◌∷◌, ◌++◌, append-nil, append_assoc}
 use mathlib.Core.Path.{◌≡◌, refl, sym, ◌∙◌, ap}
-use Prim.Native.Nat.{ℕ, zero, suc, ◌+◌, ◌*◌, ◌/◌, ◌%◌, ◌^◌, ◌≤◌, ◌<◌}
+use Prim.Native.Nat.{ℕ, zero, suc, ◌+◌, ◌*◌, ◌≤◌, ◌<◌}
 use native.Mathlib.Nat.{add-zero}
 use native.Mathlib.Numerals.{add-one}
 use native.Mathlib.Omega.{arith}
-use lib.ListN.{length, get_or, take, drop, set, length-append}
-use lib.Seq.{sets, sets-eq, take_at, take_all, take-add, get_or-drop, length-take-le}
+use lib.ListN.{length, take, drop, set, length-append}
+use lib.Seq.{sets, sets-eq, take_at, take_all, length-take-le}
 use borrow.Rule.Slice.PartMut.{put_mid}
-use Rattle.std.proofs.lemmas.List.{drop-drop, length-drop}
+use Rattle.std.proofs.lemmas.List.{drop-drop}
 use Rattle.rules.proofs.EncodingLaws.{bytes-length}
 use Rattle.rules.specs.Encoding.{word_bytes}
-use Rattle.rules.specs.Table.{word_at}
 use Rattle.rules.specs.WellFormed.{joined}
 use Rattle.writer.specs.Written.{Begins}
 
@@ -34,53 +33,6 @@ word_more word bytes to k w out after written put same =
 pub put_sets : (i k : ℕ) (bytes put : List ℕ) → length put ≡ k → i + k ≤ length bytes → put_mid i k bytes put ≡ sets bytes i put
 put_sets i k bytes put size fits =
     rw (drop-drop, ← size, sets-eq put bytes i (omega arith), append_assoc)
-
--- the four bytes of a word are read there, and the words joined are the bytes
-module _ (table : List ℕ) (byte : (j : ℕ) → get_or table j 0 < 256) where
-  first_four : (xs : List ℕ) → 4 ≤ length xs
-      → take 4 xs ≡ get_or xs 0 0 ∷ get_or xs 1 0 ∷ get_or xs 2 0 ∷ get_or xs 3 0 ∷ []
-  first_four [] l = absurd (omega arith)
-  first_four (a ∷ []) l = absurd (omega arith)
-  first_four (a ∷ b ∷ []) l = absurd (omega arith)
-  first_four (a ∷ b ∷ c ∷ []) l = absurd (omega arith)
-  first_four (a ∷ b ∷ c ∷ d ∷ xs) l = refl
-
-  same_four : {a b c d e f g h : ℕ} → a ≡ e → b ≡ f → c ≡ g → d ≡ h
-      → ◌≡◌ {A = List ℕ} (a ∷ b ∷ c ∷ d ∷ []) (e ∷ f ∷ g ∷ h ∷ [])
-  same_four p q r s = rw (p, q, r, s)
-
-  bytes_at : (i : ℕ) → 4 * i + 4 ≤ length table → take 4 (drop (4 * i) table) ≡ word_bytes (word_at table i)
-  unfolding word_bytes word_at
-  bytes_at i l =
-      let w = word_at table i in
-      let start : get_or table (4 * i + 0) 0 ≡ get_or table (4 * i) 0 = ap (λ k. get_or table k 0) (omega arith) in
-      let b0 = byte (4 * i) in
-      let b1 = byte (4 * i + 1) in
-      let b2 = byte (4 * i + 2) in
-      let b3 = byte (4 * i + 3) in
-      let e0 : get_or table (4 * i) 0 ≡ w / 2 ^ 24 = omega arith in
-      let e1 : get_or table (4 * i + 1) 0 ≡ w / 2 ^ 16 % 256 = omega arith in
-      let e2 : get_or table (4 * i + 2) 0 ≡ w / 2 ^ 8 % 256 = omega arith in
-      let e3 : get_or table (4 * i + 3) 0 ≡ w % 256 = omega arith in
-      first_four (drop (4 * i) table) (omega (arith, length-drop (4 * i) table))
-      ∙ same_four (get_or-drop (4 * i) table 0 0 ∙ (start ∙ e0)) (get_or-drop (4 * i) table 1 0 ∙ e1)
-      (get_or-drop (4 * i) table 2 0 ∙ e2) (get_or-drop (4 * i) table 3 0 ∙ e3)
-
-  pub words_there : (from count : ℕ) → 4 * (from + count) ≤ length table
-      → take (4 * count) (drop (4 * from) table) ≡ joined (λ k. word_bytes (word_at table (from + k))) count
-  unfolding joined
-  words_there from zero l = refl
-  words_there from (suc count) l =
-      let e : 4 * suc count ≡ 4 * count + 4 = omega arith in
-      let at : 4 * from + 4 * count ≡ 4 * (from + count) = omega arith in
-      rw (
-        e,
-        take-add (4 * count) 4 (drop (4 * from) table),
-        drop-drop,
-        at,
-        words_there from count (omega arith),
-        bytes_at (from + count) (omega arith),
-      )
 
 -- lists one behind the other
 joined_add : (list : ℕ → List ℕ) (i count : ℕ) → joined list (i + count) ≡ joined list i ++ joined (λ k. list (i + k)) count

@@ -1,20 +1,30 @@
--- `copy_words` meets its contract: the bytes copied are the words joined.
-use mathlib.Core.Path.{◌∙◌, ap}
-use Prim.Native.Nat.{◌+◌, ◌-◌, ◌*◌}
+-- `copy_words` meets its contract.
+use mathlib.Core.Path.{◌≡◌, refl, ◌∙◌, ap}
+use Prim.Native.Nat.{ℕ, ◌+◌}
 use native.Mathlib.Omega.{arith}
-use mathlib.Core.Path.{◌≡◌}
-use lib.Seq.{sets}
-use Rattle.writer.proofs.WordLaws.{put_sets, words_there}
+use lib.ListN.{length}
+use lib.Seq.{length-sets}
+use Rattle.rules.specs.Table.{word_at}
+use Rattle.rules.specs.WellFormed.{joined}
+use Rattle.writer.proofs.WordLaws.{word_more}
 use Rattle.writer.proofs.copy_words.Goals as goal
+
+pub loop-k-init : goal.loop-k-init
+unfolding joined
+loop-k-init c = (omega arith, refl, refl)
+
+pub loop-k-preserved : goal.loop-k-preserved
+loop-k-preserved c =
+    let loop = c.loop-k in
+    let args = c.args in
+    let word : ℕ → ℕ = λ j. word_at args.table.now (args.from + j) in
+    let put = c.put_word.ensures in (
+      omega arith,
+      ap length put ∙ simp length-sets loop.invariant.1,
+      word_more word args.out.now args.to loop.k _ _ _ loop.invariant.2 put c.word.ensures,
+    )
 
 pub returns : goal.returns
 returns c =
-    let a = c.args in
-    let at = 4 * a.to in
-    let size : 4 * (a.to + a.count) - at ≡ 4 * a.count = omega arith in
-    let read : 4 * (a.from + a.count) - 4 * a.from ≡ 4 * a.count = omega arith in
-    let put = c.copy_from_slice.new.self in
-    let there = words_there a.table.now (λ j. (c.type_inv.table j).fits) a.from a.count (omega arith) in
-    let written = rw read at c.copy_from_slice.ensures.after ∙ there in
-    let long = rw size at c.copy_from_slice.ensures.len in
-    rw (size, put_sets at (4 * a.count) a.out.now put (omega (arith, long)) (omega arith)) (ap (sets a.out.now at) written)
+    let e : c.loop-k.k ≡ c.args.count = omega arith in
+    rw (← e) c.loop-k.invariant.2

@@ -4,7 +4,7 @@ use mathlib.Core.Path.{refl, ◌∙◌, ap}
 use Prim.Native.Nat.{ℕ}
 use Rattle.linker.specs.Given.{library_of, program_of}
 use Rattle.linker.specs.Linking.{linked}
-use Rattle.linker.proofs.WordLaws.{counted, node_kept, node-moves}
+use Rattle.linker.proofs.WordLaws.{joining, counted, node_kept, node-moves}
 use Rattle.rules.specs.Encoding.{word_bytes, word_of, encode}
 use Rattle.rules.specs.WellFormed.{joined}
 use Rattle.writer.proofs.WordLaws.{begins_more, begins_all}
@@ -20,7 +20,7 @@ returns c =
     let copied = c.copy_words in
     let wrote = c.write_nodes in
     let own = begins_more word _ front.new.out copied.new.out front.ensures _ _ refl _ copied.ensures
-    (node_kept both given) (search rules) in
+    (node_kept (joining both given)) (search rules) in
     let all = begins_more word _ copied.new.out wrote.new.out own _ _ refl _ wrote.ensures
-    (node-moves both given) (search rules) in
-    begins_all word _ wrote.new.out all (search rules) ∙ ap (joined (λ i. word_bytes (word i))) (counted both given)
+    (node-moves (joining both given)) (search rules) in
+    begins_all word _ wrote.new.out all (search rules) ∙ ap (joined (λ i. word_bytes (word i))) (counted (joining both given))

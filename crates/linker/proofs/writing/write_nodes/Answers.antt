@@ -2,13 +2,13 @@
 use mathlib.Core.Path.{refl, sym, ◌∙◌, ap, subst}
 use native.Mathlib.Omega.{arith}
 use Rattle.linker.specs.Given.{moved_word, Movable, part_units, node_behind, moved_node}
-use Rattle.linker.proofs.WordLaws.{read-packed, read-units, nodes-there, node_movable}
+use Rattle.linker.proofs.WordLaws.{joining, read-packed, read-units, nodes-there, node_movable}
 use Rattle.rules.specs.WellFormed.{joined}
 use Rattle.writer.proofs.WordLaws.{word_more}
 use Rattle.linker.proofs.writing.write_nodes.Goals as goal
 
 pub overflow_sub-count : goal.overflow_sub-count
-overflow_sub-count c = nodes-there c.args.both.now c.requires.0
+overflow_sub-count c = nodes-there (joining c.args.both.now c.requires.0)
 
 pub loop-k-init : goal.loop-k-init
 unfolding joined
@@ -20,7 +20,7 @@ moved-requires c =
     let kind = c.kind_of.ensures in
     let both = c.args.both.now in
     let m = node_behind both c.loop-k.k in
-    let movable = node_movable both c.requires.0 c.loop-k.k (omega arith) in
+    let movable = node_movable (joining both c.requires.0) c.loop-k.k (omega arith) in
     let packs = subst (Movable both (part_units m)) (sym (read-packed _ _ _ is kind)) movable in
     subst (λ one. Movable both one c.packed_at-node.result) (sym (read-units _ _ _ is kind _ c.part_unit-one.ensures)) packs
 
