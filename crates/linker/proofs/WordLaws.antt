@@ -174,18 +174,18 @@ module _ {library program : List ℕ} {own its : Header} (j : Joining library pr
   its_formed : well_formed program ≡ Accepted
   its_formed = (both_formed library program j.passed).1
 
-  first : Sized library own
-  first = rw j.headed_library (sized library (read-shaped (record { passed = own-formed })))
+  library_sized : Sized library own
+  library_sized = rw j.headed_library (sized library (read-shaped (record { passed = own-formed })))
 
-  second : Sized program its
-  second = rw j.headed-program (sized program (read-shaped (record { passed = its_formed })))
+  program_sized : Sized program its
+  program_sized = rw j.headed-program (sized program (read-shaped (record { passed = its_formed })))
 
   -- the program has a procedure and a node for each stub
   pub procedures-there : own.procedures ≤ its.procedures
-  procedures-there = omega (arith, first.procedures-read, second.procedures-read, linked_up.left)
+  procedures-there = omega (arith, library_sized.procedures-read, program_sized.procedures-read, linked_up.left)
 
   pub nodes-there : own.procedures ≤ its.nodes
-  nodes-there = omega (arith, first.procedures-read, second.nodes-read, stubs-below linked_up)
+  nodes-there = omega (arith, library_sized.procedures-read, program_sized.nodes-read, stubs-below linked_up)
 
   pub counted : 2 + its.procedures + own.nodes + (its.nodes - own.procedures)
       ≡ 2 + procedures (linked (decode library) (decode program)) + nodes (linked (decode library) (decode program))
@@ -194,10 +194,10 @@ module _ {library program : List ℕ} {own its : Header} (j : Joining library pr
         arith,
         link-procedures linked_up,
         link-nodes linked_up,
-        first.procedures-read,
-        first.nodes-read,
-        second.procedures-read,
-        second.nodes-read,
+        library_sized.procedures-read,
+        library_sized.nodes-read,
+        program_sized.procedures-read,
+        program_sized.nodes-read,
       )
 
   -- word 0 and word 1
@@ -208,12 +208,12 @@ module _ {library program : List ℕ} {own its : Header} (j : Joining library pr
   unfolding word_of header_word variables procedures nodes linked joined_nodes
   header-joined =
       rw (
-        first.variables-read,
-        second.variables-read,
-        first.procedures-read,
-        first.nodes-read,
-        second.procedures-read,
-        second.nodes-read,
+        library_sized.variables-read,
+        program_sized.variables-read,
+        library_sized.procedures-read,
+        library_sized.nodes-read,
+        program_sized.procedures-read,
+        program_sized.nodes-read,
       )
 
   pub flags-program : own.variables < its.variables → word_at program 1 < 2 ^ 32
@@ -222,7 +222,7 @@ module _ {library program : List ℕ} {own its : Header} (j : Joining library pr
       flags-same (flagged J) (flagged (decode program))
       (λ v. elim (dec_lt v (variables (decode program))) [
         | yes b ↦ flagged-program linked_up v b
-        | no m ↦ flagged-own linked_up v (omega (arith, first.variables-read, second.variables-read))
+        | no m ↦ flagged-own linked_up v (omega (arith, library_sized.variables-read, program_sized.variables-read))
       ])
       32
       ∙ word_1 program (well-passes program its_formed) fits
@@ -235,7 +235,7 @@ module _ {library program : List ℕ} {own its : Header} (j : Joining library pr
         | yes b ↦ flagged_library linked_up v b
         | no m ↦
             flagged-own linked_up v (omega arith)
-            ∙ (linked_up.of_program.bounds.flags_off v (omega (arith, first.variables-read, second.variables-read))
+            ∙ (linked_up.of_program.bounds.flags_off v (omega (arith, library_sized.variables-read, program_sized.variables-read))
             ∙ sym (linked_up.of_library.bounds.flags_off v (omega arith)))
       ])
       32
@@ -246,7 +246,7 @@ module _ {library program : List ℕ} {own its : Header} (j : Joining library pr
   pub procedure-kept : (p : ℕ) → p < own.procedures
       → word_at library (2 + p) ≡ word_of (linked (decode library) (decode program)) (2 + p)
   procedure-kept p l =
-      let here : p < procedures (decode library) = omega (arith, first.procedures-read) in
+      let here : p < procedures (decode library) = omega (arith, library_sized.procedures-read) in
       sym
       (word_of-procedure J p (omega (arith, link-procedures linked_up, linked_up.left))
       ∙ (ap (λ b. body_word b (effect_flag J p)) (body_library linked_up p here)
@@ -258,10 +258,10 @@ module _ {library program : List ℕ} {own its : Header} (j : Joining library pr
     p = own.procedures + k
 
     other : procedures (decode library) ≤ p
-    other = omega (arith, first.procedures-read)
+    other = omega (arith, library_sized.procedures-read)
 
     there : p < procedures (decode program)
-    there = omega (arith, second.procedures-read)
+    there = omega (arith, program_sized.procedures-read)
 
     its_word : word_at program (2 + own.procedures + k)
         ≡ body (decode program) p * 2 ^ 24 + bit (effect_flag (decode program) p) * 2 ^ 23
@@ -275,7 +275,7 @@ module _ {library program : List ℕ} {own its : Header} (j : Joining library pr
     unfolding body_word
     moves =
         rw (body-program linked_up p other there, flag_own linked_up p other, its_word)
-        (body-moved (decode library) (decode program) _ _ first.procedures-read first.nodes-read
+        (body-moved (decode library) (decode program) _ _ library_sized.procedures-read library_sized.nodes-read
         (body (decode program) p) (bit (effect_flag (decode program) p) * 2 ^ 23) (body-high linked_up p other there))
 
     pub procedure-moved : moved_by own body_unit (word_at program (2 + own.procedures + k))
@@ -295,10 +295,10 @@ module _ {library program : List ℕ} {own its : Header} (j : Joining library pr
       → word_at library (2 + own.procedures + n)
       ≡ word_of (linked (decode library) (decode program)) (2 + its.procedures + n)
   node_kept n l =
-      rw (first.procedures-read, second.procedures-read, ← link-procedures linked_up)
+      rw (library_sized.procedures-read, program_sized.procedures-read, ← link-procedures linked_up)
       (sym
       (word_of-node J n
-      ∙ (ap packed (node_library linked_up n (omega (arith, first.nodes-read))) ∙ word-node library n)))
+      ∙ (ap packed (node_library linked_up n (omega (arith, library_sized.nodes-read))) ∙ word-node library n)))
 
   module _ (k : ℕ) (l : k < its.nodes - own.procedures) where
     abbrev m : Node
@@ -308,15 +308,15 @@ module _ {library program : List ℕ} {own its : Header} (j : Joining library pr
     new =
         let back : procedures (decode library) + (own.nodes + k - nodes (decode library))
         ≡ own.procedures + k =
-        omega (arith, first.nodes-read, first.procedures-read) in
-        node-behind linked_up (own.nodes + k) (omega (arith, first.nodes-read))
+        omega (arith, library_sized.nodes-read, library_sized.procedures-read) in
+        node-behind linked_up (own.nodes + k) (omega (arith, library_sized.nodes-read))
         ∙ ap (λ n. renamed (renumbered (decode library) (decode program)) (node_at (decode program) n)) back
 
     moved : (packed (renamed (renumbered (decode library) (decode program)) m) ≡ moved_by own (part_units m) (packed m))
         × (own.procedures * part_units m ≤ packed m)
     unfolding parts_at expression_at statement_at
     moved =
-        node-moved (decode library) (decode program) _ _ first.procedures-read first.nodes-read m
+        node-moved (decode library) (decode program) _ _ library_sized.procedures-read library_sized.nodes-read m
         (part-high linked_up (own.procedures + k))
 
     pub node-moves : moved_by own (part_units (node_at (decode program) (own.procedures + k)))
@@ -324,14 +324,14 @@ module _ {library program : List ℕ} {own its : Header} (j : Joining library pr
         ≡ word_of (linked (decode library) (decode program)) (2 + its.procedures + own.nodes + k)
     node-moves =
         sym (word_of-node J (own.nodes + k) ∙ (ap packed new ∙ moved.0))
-        ∙ ap (word_of J) (omega (arith, second.procedures-read, link-procedures linked_up))
+        ∙ ap (word_of J) (omega (arith, program_sized.procedures-read, link-procedures linked_up))
 
     pub node_movable : MovableBy own (part_units (node_at (decode program) (own.procedures + k)))
         (packed (node_at (decode program) (own.procedures + k)))
     unfolding packed
     node_movable =
         let n = own.nodes + k in
-        let here : n < nodes J = omega (arith, link-nodes linked_up, first.nodes-read, second.nodes-read, first.procedures-read) in
+        let here : n < nodes J = omega (arith, link-nodes linked_up, library_sized.nodes-read, program_sized.nodes-read, library_sized.procedures-read) in
         let kind = (linked-fit linked_up).kinds_fit n here in
         let fields = (linked-fit linked_up).fields_fit n here in
         let whole : packed (node_at J n) ≡ moved_by own (part_units m) (packed m) = ap packed new ∙ moved.0 in
@@ -342,7 +342,7 @@ module _ {library program : List ℕ} {own its : Header} (j : Joining library pr
   pub bytes-joined : 4 * (2 + its.procedures + (own.nodes + (its.nodes - own.procedures)))
       ≡ joined_bytes (decode library) (decode program)
   unfolding joined_nodes
-  bytes-joined = rw (first.procedures-read, first.nodes-read, second.procedures-read, second.nodes-read)
+  bytes-joined = rw (library_sized.procedures-read, library_sized.nodes-read, program_sized.procedures-read, program_sized.nodes-read)
 
   pub bytes-few : 4 * (2 + its.procedures + (own.nodes + (its.nodes - own.procedures))) ≤ most_table_bytes
   unfolding joined_nodes
